@@ -1,0 +1,29 @@
+-- Reasoning by cases on a test. Assumes nothing.
+use mathlib.Core.Path.{_≡_, refl, sym}
+use mathlib.Core.Bool.{Bool, true, false, _&&_, _||_, false≢true}
+
+-- how a test came out
+pub data Test (b : Bool) : Type 0 where
+  passes : b ≡ true → Test b
+  fails : b ≡ false → Test b
+
+pub test : (b : Bool) → Test b
+test true = passes refl
+test false = fails refl
+
+pub clash : {A : Type 0} {b : Bool} → b ≡ true → b ≡ false → A
+clash p q = absurd (false≢true (let e : _≡_ {A = Bool} false true = cc in e))
+
+-- two tests that pass together are equal
+pub same-test : (a b : Bool) → (a ≡ true → b ≡ true) → (b ≡ true → a ≡ true) → a ≡ b
+same-test true b f g = sym (f refl)
+same-test false true f g = g refl
+same-test false false f g = refl
+
+pub and-parts : (a b : Bool) → (a && b) ≡ true → (a ≡ true) × (b ≡ true)
+and-parts true b e = (refl, e)
+and-parts false b e = absurd (false≢true e)
+
+pub or-parts : (a b : Bool) → (a || b) ≡ false → (a ≡ false) × (b ≡ false)
+or-parts true b e = absurd (false≢true (sym e))
+or-parts false b e = (refl, e)

@@ -1,0 +1,90 @@
+// Sets of disks as masks: bit d stands for disk d (document 01, "What the cabinet is").
+//
+// A set's width stands here, in Mask and DISKS and in the two counts that name the integer type. No promise and no
+// proof depends on it.
+ghost use mathlib.Core.Path.{_≡_};
+ghost use Prim.Native.Nat.{_<_, _≤_};
+ghost use Rattle.sets.specs.Sets.{has, union, intersection, difference, subset, singleton, all, below, size, lowest};
+
+pub type Mask = u8;
+
+// As many disks as a mask has bits: the most that a cabinet may have.
+pub const DISKS: usize = 8;
+
+// A disk from DISKS up is in no set, so any number may be asked about.
+pub fn has(s: Mask, d: usize) -> bool
+    ensures { λ r. ⌜ r ≡ has s d ⌝ }
+{
+    if d < DISKS { (s >> d) & 1 == 1 } else { false }
+}
+
+pub fn union(a: Mask, b: Mask) -> Mask
+    ensures { λ r. ⌜ r ≡ union a b ⌝ }
+{
+    a | b
+}
+
+pub fn intersection(a: Mask, b: Mask) -> Mask
+    ensures { λ r. ⌜ r ≡ intersection a b ⌝ }
+{
+    a & b
+}
+
+pub fn difference(a: Mask, b: Mask) -> Mask
+    ensures { λ r. ⌜ r ≡ difference a b ⌝ }
+{
+    a & !b
+}
+
+pub fn subset(a: Mask, b: Mask) -> bool
+    ensures { λ r. ⌜ r ≡ subset a b ⌝ }
+{
+    intersection(a, b) == a
+}
+
+// A disk from DISKS up has no bit, so the bound must be asked.
+pub fn singleton(d: usize) -> Mask
+    requires { do ⌜ d < (← ⟦DISKS⟧) ⌝ }
+    ensures { λ r. ⌜ r ≡ singleton d ⌝ }
+{
+    1 << d
+}
+
+// The disks below n. A mask holds no more than DISKS of them, so the bound must be asked.
+pub fn all(n: usize) -> Mask
+    requires { do ⌜ n ≤ (← ⟦DISKS⟧) ⌝ }
+    ensures { λ r. ⌜ r ≡ all n ⌝ }
+{
+    // A shift by the whole width is undefined.
+    if n < DISKS { singleton(n) - 1 } else { !0 }
+}
+
+// Whether s names only disks below n.
+pub fn below(s: Mask, n: usize) -> bool
+    ensures { λ r. ⌜ r ≡ below s n ⌝ }
+{
+    if n < DISKS { s >> n == 0 } else { true }
+}
+
+fn wide(x: u32) -> usize
+    ensures { λ r. ⌜ r ≡ x ⌝ }
+{
+    x as usize
+}
+
+pub fn size(s: Mask) -> usize
+    ensures { λ r. ⌜ r ≡ size s ⌝ }
+{
+    wide(u8::count_ones(s))
+}
+
+// The empty set has no lowest member; its trailing zeros would be the width, so 0 is given instead.
+pub fn lowest(s: Mask) -> usize
+    ensures { λ r. ⌜ r ≡ lowest s ⌝ }
+{
+    if s == 0 {
+        0
+    } else {
+        wide(u8::trailing_zeros(s))
+    }
+}
