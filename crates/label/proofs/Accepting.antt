@@ -1,0 +1,94 @@
+-- What it says of a label that no refusal applies. Assumes nothing.
+use mathlib.Core.Path.{_≡_, refl, sym, ap, _∙_}
+use mathlib.Core.Bool.{Bool, true, false, cond, not, _&&_, _||_, false≢true}
+use Prim.Native.Nat.{ℕ, _+_, _*_, _/_, _%_, _^_, _≤_, _<_}
+use native.Mathlib.Nat.{lt-of-lt-of-le}
+use native.Mathlib.Omega.{arith}
+use lib.Dec.{eqb, ltb, leb, lit<}
+use lib.Pow.{pow-pos, pow-mono}
+use lib.ListN.{length}
+use borrow.Author.Tests.{ltb-false, leb-false, eqb-true, le-ltb, lt-leb, eq-eqb, not-false}
+use Rattle.sets.specs.Sets.{has, below}
+use Rattle.sets.proofs.Tests.{Test, passes, fails, test, or-parts}
+use Rattle.sets.proofs.Bounds.{below-pow}
+use Rattle.label.specs.Form.{Form, Roomy}
+use Rattle.label.specs.Bytes.{labelLength, encode}
+use Rattle.label.specs.Refusals.{refuseIf, outside, wrongSet}
+use Rattle.label.specs.Reading.{emptyField, readRefusal}
+use Rattle.label.specs.Writing.{writeRefusal}
+use Rattle.label.specs.declared.Label.{Label}
+
+-- where a chain of refusals gives 0, its first condition does not hold, and the later ones give 0
+none-of : (unfit : Bool) (number later : ℕ) → 0 < number → refuseIf unfit number later ≡ 0 → (unfit ≡ false) × (later ≡ 0)
+unfolding refuseIf
+none-of true number later h e = absurd (omega arith)
+none-of false number later h e = (refl, e)
+
+-- the label of disk d of n as both calls want it
+pub record Proper (f : Form) (d n : ℕ) (l : Label) : Type 0 where
+  pub count : outside f n ≡ false
+  pub number : leb n d ≡ false
+  pub sets : (wrongSet (l .committed) d n || wrongSet (l .tentative) d n) ≡ false
+
+-- ---- the writer
+
+pub writer-accepts : (f : Form) (d n : ℕ) (l : Label) (room : ℕ) → writeRefusal f d n l room ≡ 0 → Proper f d n l × (length (encode f d n l) ≤ room)
+unfolding writeRefusal
+writer-accepts f d n l room e =
+    let a = none-of _ 4 _ (lit< tt) e in
+    let b = none-of _ 8 _ (lit< tt) (a .1) in
+    let c = none-of _ 20 _ (lit< tt) (b .1) in
+    let g = none-of _ 21 _ (lit< tt) (c .1) in
+    (record { count = a .0; number = b .0; sets = c .0 }, ltb-false _ _ (g .0))
+
+pub accepted : (f : Form) (d n : ℕ) (l : Label) (room : ℕ) → Proper f d n l → length (encode f d n l) ≤ room → writeRefusal f d n l room ≡ 0
+unfolding writeRefusal refuseIf
+accepted f d n l room p h = rw (p .count, p .number, p .sets, le-ltb _ _ h)
+
+-- ---- the reader
+
+pub record Passed (f : Form) (len map d n : ℕ) (l : Label) : Type 0 where
+  pub two : 2 ≤ len
+  pub fixed : map / 8 ≡ f .fixedBits
+  pub proper : Proper f d n l
+  pub whole : labelLength f map ≤ len
+  pub full : emptyField map l ≡ false
+
+pub reader-passes : (f : Form) (len map d n : ℕ) (l : Label) → readRefusal f len map d n l ≡ 0 → Passed f len map d n l
+unfolding readRefusal
+reader-passes f len map d n l e =
+    let a = none-of _ 16 _ (lit< tt) e in
+    let b = none-of _ 17 _ (lit< tt) (a .1) in
+    let c = none-of _ 18 _ (lit< tt) (b .1) in
+    let g = none-of _ 16 _ (lit< tt) (c .1) in
+    let h = none-of _ 19 _ (lit< tt) (g .1) in
+    let k = none-of _ 20 _ (lit< tt) (h .1) in
+    let p = or-parts (outside f n) (leb n d) (c .0) in
+    record {
+      two = ltb-false _ _ (a .0);
+      fixed = eqb-true _ _ (not-false _ (b .0));
+      proper = record { count = p .0; number = p .1; sets = k .0 };
+      whole = ltb-false _ _ (g .0);
+      full = h .0;
+    }
+
+pub passed : (f : Form) (len map d n : ℕ) (l : Label) → Passed f len map d n l → readRefusal f len map d n l ≡ 0
+unfolding readRefusal refuseIf
+passed f len map d n l p =
+    rw (le-ltb _ _ (p .two), eq-eqb _ _ (p .fixed), p .proper .count, p .proper .number, le-ltb _ _ (p .whole), p .full, p .proper .sets)
+
+-- ---- what a proper label says in numbers
+
+pub in-range : (f : Form) (n : ℕ) → outside f n ≡ false → (1 ≤ n) × (n ≤ f .mostDisks)
+unfolding outside
+in-range f n e = let p = or-parts (ltb n 1) (ltb (f .mostDisks) n) e in (ltb-false _ _ (p .0), ltb-false _ _ (p .1))
+
+-- a set that is not wrong fits the form's bytes
+pub set-fits : (f : Form) (s d n : ℕ) → Roomy f → n ≤ f .mostDisks → wrongSet s d n ≡ false → s < 2 ^ (8 * f .setBytes)
+unfolding wrongSet
+set-fits f s d n r h e = go (test (eqb s 0)) (test (below s n))
+  where
+    go : Test (eqb s 0) → Test (below s n) → s < 2 ^ (8 * f .setBytes)
+    go (passes z) b = rw (eqb-true s 0 z) (pow-pos (8 * f .setBytes))
+    go (fails z) (passes b) = lt-of-lt-of-le (below-pow s n .0 b) (pow-mono (omega (arith, r .sets)))
+    go (fails z) (fails b) = absurd (false≢true (sym (rw (z, b) at e)))

@@ -1,0 +1,50 @@
+-- Reading and writing agree, for every form that can hold its labels. Assumes nothing.
+use mathlib.Core.Path.{_≡_, refl, sym, ap, _∙_}
+use mathlib.Core.List.{List, [], _∷_, _++_, append-nil}
+use Prim.Native.Nat.{ℕ, zero, suc, _+_, _*_, _≤_, _<_}
+use native.Mathlib.Nat.{le-refl}
+use native.Mathlib.Omega.{arith}
+use lib.ListN.{length, getD}
+use Rattle.label.specs.Form.{Form, Roomy, narrow}
+use Rattle.label.specs.Bytes.{mapByte, placeByte, fieldBytes, encode}
+use Rattle.label.specs.Codec.{Bytes, Writable, Readable, Codec}
+use Rattle.label.specs.declared.Label.{Label}
+use Rattle.label.proofs.Accepting.{Proper, accepted, writer-accepts}
+use Rattle.label.proofs.Fields.{present-le, field-bytes}
+use Rattle.label.proofs.RoundTrip.{place-bytes, written-reads, read-parts, one-way}
+use Rattle.label.proofs.Prefix.{read-alike}
+
+bytes-append : (s t : List ℕ) → Bytes s → Bytes t → Bytes (s ++ t)
+bytes-append [] t hs ht i = ht i
+bytes-append (x ∷ s) t hs ht zero = hs 0
+bytes-append (x ∷ s) t hs ht (suc i) = bytes-append s t (λ j. hs (suc j)) ht i
+
+written-bytes : (f : Form) → Roomy f → (d n : ℕ) (l : Label) → Writable f d n l → Bytes (encode f d n l)
+unfolding encode mapByte Writable
+written-bytes f r d n l w zero = omega (arith, r .map, present-le (l .committed), present-le (l .tentative), present-le (l .dirty))
+written-bytes f r d n l w (suc zero) = place-bytes f d n l r (writer-accepts f d n l _ w .0) .2
+written-bytes f r d n l w (suc (suc i)) =
+    bytes-append (fieldBytes (f .setBytes) (l .committed)) (fieldBytes (f .setBytes) (l .tentative) ++ fieldBytes 1 (l .dirty))
+    (field-bytes (f .setBytes) (l .committed))
+    (bytes-append (fieldBytes (f .setBytes) (l .tentative)) (fieldBytes 1 (l .dirty)) (field-bytes (f .setBytes) (l .tentative)) (field-bytes 1 (l .dirty)))
+    i
+
+pub codec : (f : Form) → Roomy f → Codec f
+unfolding Writable Readable
+codec f r = record {
+  written-reads = written-reads f r;
+  one-way = one-way f;
+  read-alike = read-alike f;
+  readable-iff-writable = λ d n l h. (
+    λ (s, len, b, e). accepted f d n l _ (read-parts f s d n l len e .passes-all .proper) (le-refl _),
+    λ w. (encode f d n l, length (encode f d n l), written-bytes f r d n l w, rw append-nil at (written-reads f r d n l [] h w)),
+  );
+  written-bytes = written-bytes f r;
+}
+
+-- document 01's form
+pub narrow-roomy : Roomy narrow
+narrow-roomy = omega arith
+
+pub narrow-codec : Codec narrow
+narrow-codec = codec narrow narrow-roomy

@@ -1,0 +1,9 @@
+-- The laws of labels, for every form.
+pub mod Numbers
+pub mod Accepting
+pub mod Fields
+pub mod RoundTrip
+pub mod Prefix
+pub mod Codec
+pub mod Splicing
+pub mod Stores

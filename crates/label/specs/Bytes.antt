@@ -1,0 +1,62 @@
+-- Document 01, "Label bytes". A label is the bytes that encode it; the reader's parts of a string of bytes follow below.
+use mathlib.Core.Bool.{Bool, cond}
+use mathlib.Core.List.{List, [], _∷_, _++_}
+use Prim.Native.Nat.{ℕ, zero, suc, _+_, _-_, _*_, _/_, _%_}
+use lib.Dec.{eqb}
+use lib.ListN.{length, getD, drop}
+use Rattle.label.specs.Form.{Form}
+use Rattle.label.specs.declared.Label.{Label}
+
+-- ---- a label as bytes
+
+-- "A field of 0 has no bit."
+abbrev pub present : ℕ → ℕ
+present zero = 0
+present (suc v) = 1
+
+-- "The first byte is a bit map: bit 0 for C, bit 1 for T, bit 2 for the dirty map."
+unfoldable pub mapByte : Form → Label → ℕ
+mapByte f l = f .fixedBits * 8 + (present (l .committed) + 2 * present (l .tentative) + 4 * present (l .dirty))
+
+-- "The second has the disk number in its low four bits and n in its high four."
+unfoldable pub placeByte : Form → ℕ → ℕ → ℕ
+placeByte f d n = d + 16 * (n - f .countBase)
+
+-- a number in so many bytes, low byte first
+unfoldable pub littleEndian : ℕ → ℕ → List ℕ
+littleEndian zero v = []
+littleEndian (suc k) v = v % 256 ∷ littleEndian k (v / 256)
+
+-- the bytes of a field that has k of them when its bit stands
+abbrev pub fieldBytes : ℕ → ℕ → List ℕ
+fieldBytes k zero = []
+fieldBytes k (suc v) = littleEndian k (suc v)
+
+-- "Then one byte for each field whose bit stands, in bit order."
+unfoldable pub encode : Form → ℕ → ℕ → Label → List ℕ
+encode f d n l =
+    mapByte f l ∷ placeByte f d n ∷
+    (fieldBytes (f .setBytes) (l .committed) ++ (fieldBytes (f .setBytes) (l .tentative) ++ fieldBytes 1 (l .dirty)))
+
+-- ---- bytes as a label
+
+-- the length that a map asks
+unfoldable pub labelLength : Form → ℕ → ℕ
+labelLength f map = 2 + f .setBytes * (map % 2) + f .setBytes * (map / 2 % 2) + map / 4 % 2
+
+-- the number that the first k bytes hold, low byte first
+unfoldable pub value : ℕ → List ℕ → ℕ
+value zero s = 0
+value (suc k) s = getD s 0 0 + 256 * value k (drop 1 s)
+
+-- the field of k bytes at a place, by its bit of the map
+unfoldable pub fieldAt : List ℕ → ℕ → ℕ → ℕ → ℕ
+fieldAt s bit k at = cond (eqb bit 1) (value k (drop at s)) 0
+
+-- each field stands behind those present before it, in bit order
+unfoldable pub fieldsOf : Form → List ℕ → ℕ → Label
+fieldsOf f s map = record {
+  committed = fieldAt s (map % 2) (f .setBytes) 2;
+  tentative = fieldAt s (map / 2 % 2) (f .setBytes) (2 + f .setBytes * (map % 2));
+  dirty = fieldAt s (map / 4 % 2) 1 (2 + f .setBytes * (map % 2) + f .setBytes * (map / 2 % 2));
+}

@@ -1,0 +1,36 @@
+-- Document 01, "Label writing".
+use mathlib.Core.Bool.{Bool, cond, _||_}
+use mathlib.Core.List.{List, _++_}
+use Prim.Native.Nat.{ℕ, _+_}
+use lib.Dec.{eqb, ltb, leb}
+use lib.ListN.{length, take, drop}
+use Rattle.label.specs.Form.{Form}
+use Rattle.label.specs.Bytes.{encode}
+use Rattle.label.specs.Refusals.{refuseIf, outside, wrongSet}
+use Rattle.label.specs.declared.Label.{Label}
+use Rattle.label.specs.declared.Written.{Written}
+
+-- "Label writing: 4. 8. 20. 21": for disk d of n, into so many bytes.
+unfoldable pub writeRefusal : Form → ℕ → ℕ → Label → ℕ → ℕ
+writeRefusal f d n l room =
+    -- "4, n outside 1 to 8."
+    refuseIf (outside f n) 4
+    -- "8, d is not below n."
+    (refuseIf (leb n d) 8
+    -- "20, a C or T that is not 0 names a disk from n up or omits its own disk."
+    (refuseIf (wrongSet (l .committed) d n || wrongSet (l .tentative) d n) 20
+    -- "21, the output is shorter than the label."
+    (refuseIf (ltb room (length (encode f d n l))) 21 0)))
+
+-- "It yields the label's length, 0 if refused"
+unfoldable pub written : Form → ℕ → ℕ → Label → ℕ → Written
+written f d n l room =
+    record { refusal = writeRefusal f d n l room; length = cond (eqb (writeRefusal f d n l room) 0) (length (encode f d n l)) 0 }
+
+-- a list whose elements from a place on are replaced by those of another
+unfoldable pub splice : ℕ → List ℕ → List ℕ → List ℕ
+splice at new old = take at old ++ (new ++ drop (at + length new) old)
+
+-- "bytes beyond the label stay", and all of them if refused
+unfoldable pub writtenBytes : Form → ℕ → ℕ → Label → List ℕ → List ℕ
+writtenBytes f d n l old = cond (eqb (writeRefusal f d n l (length old)) 0) (splice 0 (encode f d n l) old) old

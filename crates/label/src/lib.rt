@@ -1,0 +1,32 @@
+// A disk's label and its bytes (document 01, "Label bytes").
+use sets::Mask;
+
+mod reader;
+mod refusal;
+mod rules;
+mod writer;
+
+pub use reader::read;
+pub use writer::write;
+
+// A committed set of 0: the disk has never been a member. A tentative set of 0: none. Bit r of dirty stands for region r.
+pub struct Label {
+    pub committed: Mask,
+    pub tentative: Mask,
+    pub dirty: u8,
+}
+
+// What reading yields. Refused, everything but the refusal's number is 0; done, that number is.
+pub struct Reading {
+    pub refusal: u8,
+    pub number: usize,
+    pub disks: usize,
+    pub label: Label,
+    pub length: usize,
+}
+
+// What writing yields, beside the bytes. Refused, the length is 0; done, the refusal's number is.
+pub struct Written {
+    pub refusal: u8,
+    pub length: usize,
+}

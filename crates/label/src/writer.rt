@@ -1,0 +1,96 @@
+// Writing a label as bytes.
+ghost use mathlib.Core.Path.{_≡_};
+ghost use mathlib.Core.List.{[], _∷_};
+ghost use Prim.Native.Nat.{_+_, _≤_, _<_};
+ghost use lib.ListN.{length};
+ghost use Rattle.label.specs.Form.{narrow};
+ghost use Rattle.label.specs.Bytes.{present, fieldBytes, mapByte, encode};
+ghost use Rattle.label.specs.Writing.{splice, writeRefusal, written, writtenBytes};
+use crate::Label;
+use crate::Written;
+use crate::refusal::DISK_COUNT;
+use crate::refusal::LABEL_SET;
+use crate::refusal::NO_ROOM;
+use crate::refusal::NO_SUCH_DISK;
+use crate::refusal::refuse_if;
+use crate::rules::label_length;
+use crate::rules::outside;
+use crate::rules::wrong_set;
+
+// The bit of a field: a field of 0 has none.
+fn present(field: u8) -> u8
+    ensures { λ r. ⌜ r ≡ present field ⌝ }
+{
+    if field == 0 { 0 } else { 1 }
+}
+
+fn map_byte(label: Label) -> u8
+    ensures { λ r. ⌜ r ≡ mapByte narrow label ⌝ }
+{
+    present(label.committed) + 2 * present(label.tentative) + 4 * present(label.dirty)
+}
+
+// The first refusal that applies, 0 if none does.
+fn write_refusal(room: usize, number: usize, disks: usize, label: Label) -> u8
+    ensures { λ r. ⌜ r ≡ writeRefusal narrow number disks label room ⌝ }
+{
+    let needed = label_length(map_byte(label));
+    let count = outside(disks);
+    let committed = wrong_set(label.committed, number, disks);
+    let tentative = wrong_set(label.tentative, number, disks);
+    let long = refuse_if(room < needed, NO_ROOM, 0);
+    let sets = refuse_if(committed | tentative, LABEL_SET, long);
+    let own = refuse_if(disks <= number, NO_SUCH_DISK, sets);
+    refuse_if(count, DISK_COUNT, own)
+}
+
+fn put_byte(out: &mut [u8], at: usize, byte: u8)
+    requires { ⌜ at < length (now out) ⌝ }
+    ensures { λ _. ⌜ now (out .exit) ≡ splice at (byte ∷ []) (now (out .entry)) ⌝ }
+{
+    out[at] = byte;
+}
+
+// Stores a field at a place if it is present, and gives the place behind it.
+fn put_field(out: &mut [u8], at: usize, field: u8) -> usize
+    requires { ⌜ at + present field ≤ length (now out) ⌝ }
+    ensures { λ r. ⌜ (r ≡ at + present field) × (now (out .exit) ≡ splice at (fieldBytes 1 field) (now (out .entry))) ⌝ }
+{
+    if field == 0 {
+        return at;
+    }
+    put_byte(out, at, field);
+    at + 1
+}
+
+// Stores the label's bytes, one after the other, and gives their number.
+fn put(out: &mut [u8], number: usize, disks: usize, label: Label) -> usize
+    requires { ⌜ (number < 16) × (disks < 16) × (2 + present (label .committed) + present (label .tentative) + present (label .dirty) ≤ length (now out)) ⌝ }
+    ensures { λ r. ⌜ (r ≡ length (encode narrow number disks label)) × (now (out .exit) ≡ splice 0 (encode narrow number disks label) (now (out .entry))) ⌝ }
+{
+    put_byte(out, 0, map_byte(label));
+    put_byte(out, 1, (number + 16 * disks) as u8);
+    let second = put_field(out, 2, label.committed);
+    let third = put_field(out, second, label.tentative);
+    put_field(out, third, label.dirty)
+}
+
+// The label of disk number of so many, as the first bytes of the output. The bytes beyond it stay, and all of them if
+// it is refused.
+pub fn write(out: &mut [u8], number: usize, disks: usize, label: Label) -> Written
+    ensures answer { λ r. ⌜ r ≡ written narrow number disks label (length (now (out .entry))) ⌝ }
+    ensures bytes { λ r. ⌜ now (out .exit) ≡ writtenBytes narrow number disks label (now (out .entry)) ⌝ }
+{
+    let refusal = write_refusal(out.len(), number, disks, label);
+    if refusal == 0 {
+        Written {
+            refusal: 0,
+            length: put(out, number, disks, label),
+        }
+    } else {
+        Written {
+            refusal: refusal,
+            length: 0,
+        }
+    }
+}
