@@ -1,6 +1,7 @@
 -- What it says of a label that no refusal applies. Assumes nothing.
 use mathlib.Core.Path.{_≡_, refl, sym, ap, _∙_}
 use mathlib.Core.Bool.{Bool, true, false, cond, not, _&&_, _||_, false≢true}
+use mathlib.Core.List.{List, [], _∷_}
 use Prim.Native.Nat.{ℕ, _+_, _*_, _/_, _%_, _^_, _≤_, _<_}
 use native.Mathlib.Nat.{lt-of-lt-of-le}
 use native.Mathlib.Omega.{arith}
@@ -13,36 +14,36 @@ use Rattle.sets.proofs.Tests.{Test, passes, fails, test, or-parts}
 use Rattle.sets.proofs.Bounds.{below-pow}
 use Rattle.label.specs.Form.{Form, Roomy}
 use Rattle.label.specs.Bytes.{labelLength, encode}
-use Rattle.label.specs.Refusals.{refuseIf, outside, wrongSet}
-use Rattle.label.specs.Reading.{emptyField, readRefusal}
-use Rattle.label.specs.Writing.{writeRefusal}
+use Rattle.label.specs.Refusals.{firstOf, outside, wrongSet, wrongSets}
+use Rattle.label.specs.Reading.{emptyField, readRefusals, readRefusal}
+use Rattle.label.specs.Writing.{writeRefusals, writeRefusal}
 use Rattle.label.specs.declared.Label.{Label}
 
--- where a chain of refusals gives 0, its first condition does not hold, and the later ones give 0
-none-of : (unfit : Bool) (number later : ℕ) → 0 < number → refuseIf unfit number later ≡ 0 → (unfit ≡ false) × (later ≡ 0)
-unfolding refuseIf
-none-of true number later h e = absurd (omega arith)
-none-of false number later h e = (refl, e)
+-- where a paragraph gives 0, its first condition does not hold, and neither do the later ones
+none-of : (number : ℕ) (unfit : Bool) (later : List (ℕ × Bool)) → 0 < number → firstOf ((number, unfit) ∷ later) ≡ 0 → (unfit ≡ false) × (firstOf later ≡ 0)
+unfolding firstOf
+none-of number true later h e = absurd (omega arith)
+none-of number false later h e = (refl, e)
 
 -- the label of disk d of n as both calls want it
 pub record Proper (f : Form) (d n : ℕ) (l : Label) : Type 0 where
   pub count : outside f n ≡ false
   pub number : leb n d ≡ false
-  pub sets : (wrongSet (l .committed) d n || wrongSet (l .tentative) d n) ≡ false
+  pub sets : wrongSets l d n ≡ false
 
 -- ---- the writer
 
 pub writer-accepts : (f : Form) (d n : ℕ) (l : Label) (room : ℕ) → writeRefusal f d n l room ≡ 0 → Proper f d n l × (length (encode f d n l) ≤ room)
-unfolding writeRefusal
+unfolding writeRefusal writeRefusals
 writer-accepts f d n l room e =
-    let a = none-of _ 4 _ (lit< tt) e in
-    let b = none-of _ 8 _ (lit< tt) (a .1) in
-    let c = none-of _ 20 _ (lit< tt) (b .1) in
-    let g = none-of _ 21 _ (lit< tt) (c .1) in
+    let a = none-of 4 _ _ (lit< tt) e in
+    let b = none-of 8 _ _ (lit< tt) (a .1) in
+    let c = none-of 20 _ _ (lit< tt) (b .1) in
+    let g = none-of 21 _ _ (lit< tt) (c .1) in
     (record { count = a .0; number = b .0; sets = c .0 }, ltb-false _ _ (g .0))
 
 pub accepted : (f : Form) (d n : ℕ) (l : Label) (room : ℕ) → Proper f d n l → length (encode f d n l) ≤ room → writeRefusal f d n l room ≡ 0
-unfolding writeRefusal refuseIf
+unfolding writeRefusal writeRefusals firstOf
 accepted f d n l room p h = rw (p .count, p .number, p .sets, le-ltb _ _ h)
 
 -- ---- the reader
@@ -55,14 +56,14 @@ pub record Passed (f : Form) (len map d n : ℕ) (l : Label) : Type 0 where
   pub full : emptyField map l ≡ false
 
 pub reader-passes : (f : Form) (len map d n : ℕ) (l : Label) → readRefusal f len map d n l ≡ 0 → Passed f len map d n l
-unfolding readRefusal
+unfolding readRefusal readRefusals
 reader-passes f len map d n l e =
-    let a = none-of _ 16 _ (lit< tt) e in
-    let b = none-of _ 17 _ (lit< tt) (a .1) in
-    let c = none-of _ 18 _ (lit< tt) (b .1) in
-    let g = none-of _ 16 _ (lit< tt) (c .1) in
-    let h = none-of _ 19 _ (lit< tt) (g .1) in
-    let k = none-of _ 20 _ (lit< tt) (h .1) in
+    let a = none-of 16 _ _ (lit< tt) e in
+    let b = none-of 17 _ _ (lit< tt) (a .1) in
+    let c = none-of 18 _ _ (lit< tt) (b .1) in
+    let g = none-of 16 _ _ (lit< tt) (c .1) in
+    let h = none-of 19 _ _ (lit< tt) (g .1) in
+    let k = none-of 20 _ _ (lit< tt) (h .1) in
     let p = or-parts (outside f n) (leb n d) (c .0) in
     record {
       two = ltb-false _ _ (a .0);
@@ -73,7 +74,7 @@ reader-passes f len map d n l e =
     }
 
 pub passed : (f : Form) (len map d n : ℕ) (l : Label) → Passed f len map d n l → readRefusal f len map d n l ≡ 0
-unfolding readRefusal refuseIf
+unfolding readRefusal readRefusals firstOf
 passed f len map d n l p =
     rw (le-ltb _ _ (p .two), eq-eqb _ _ (p .fixed), p .proper .count, p .proper .number, le-ltb _ _ (p .whole), p .full, p .proper .sets)
 
@@ -84,7 +85,7 @@ unfolding outside
 in-range f n e = let p = or-parts (ltb n 1) (ltb (f .mostDisks) n) e in (ltb-false _ _ (p .0), ltb-false _ _ (p .1))
 
 -- a set that is not wrong fits the form's bytes
-pub set-fits : (f : Form) (s d n : ℕ) → Roomy f → n ≤ f .mostDisks → wrongSet s d n ≡ false → s < 2 ^ (8 * f .setBytes)
+set-fits : (f : Form) (s d n : ℕ) → Roomy f → n ≤ f .mostDisks → wrongSet s d n ≡ false → s < 2 ^ (8 * f .setBytes)
 unfolding wrongSet
 set-fits f s d n r h e = go (test (eqb s 0)) (test (below s n))
   where
@@ -92,3 +93,10 @@ set-fits f s d n r h e = go (test (eqb s 0)) (test (below s n))
     go (passes z) b = rw (eqb-true s 0 z) (pow-pos (8 * f .setBytes))
     go (fails z) (passes b) = lt-of-lt-of-le (below-pow s n .0 b) (pow-mono (omega (arith, r .sets)))
     go (fails z) (fails b) = absurd (false≢true (sym (rw (z, b) at e)))
+
+pub sets-fit : (f : Form) (d n : ℕ) (l : Label) → Roomy f → Proper f d n l → (l .committed < 2 ^ (8 * f .setBytes)) × (l .tentative < 2 ^ (8 * f .setBytes))
+unfolding wrongSets
+sets-fit f d n l r p =
+    let each = or-parts (wrongSet (l .committed) d n) (wrongSet (l .tentative) d n) (p .sets) in
+    let most = in-range f n (p .count) .1 in
+    (set-fits f (l .committed) d n r most (each .0), set-fits f (l .tentative) d n r most (each .1))

@@ -4,22 +4,22 @@ use mathlib.Core.List.{List, [], _∷_, _++_, append-nil}
 use Prim.Native.Nat.{ℕ, zero, suc, _+_, _*_, _≤_, _<_}
 use native.Mathlib.Nat.{le-refl}
 use native.Mathlib.Omega.{arith}
-use lib.ListN.{length, getD}
+use lib.ListN.{length, getD, length-append}
 use Rattle.label.specs.Form.{Form, Roomy, narrow}
-use Rattle.label.specs.Bytes.{mapByte, placeByte, fieldBytes, encode}
-use Rattle.label.specs.Codec.{Bytes, Writable, Readable, Codec}
+use Rattle.label.specs.Bytes.{mapByte, fieldBytes, encode, longestLabel}
+use Rattle.label.specs.Codec.{AreBytes, Writable, Readable, Codec}
 use Rattle.label.specs.declared.Label.{Label}
 use Rattle.label.proofs.Accepting.{Proper, accepted, writer-accepts}
-use Rattle.label.proofs.Fields.{present-le, field-bytes}
+use Rattle.label.proofs.Fields.{present-le, length-field-le, field-bytes}
 use Rattle.label.proofs.RoundTrip.{place-bytes, written-reads, read-parts, one-way}
 use Rattle.label.proofs.Prefix.{read-alike}
 
-bytes-append : (s t : List ℕ) → Bytes s → Bytes t → Bytes (s ++ t)
+bytes-append : (s t : List ℕ) → AreBytes s → AreBytes t → AreBytes (s ++ t)
 bytes-append [] t hs ht i = ht i
 bytes-append (x ∷ s) t hs ht zero = hs 0
 bytes-append (x ∷ s) t hs ht (suc i) = bytes-append s t (λ j. hs (suc j)) ht i
 
-written-bytes : (f : Form) → Roomy f → (d n : ℕ) (l : Label) → Writable f d n l → Bytes (encode f d n l)
+written-bytes : (f : Form) → Roomy f → (d n : ℕ) (l : Label) → Writable f d n l → AreBytes (encode f d n l)
 unfolding encode mapByte Writable
 written-bytes f r d n l w zero = omega (arith, r .map, present-le (l .committed), present-le (l .tentative), present-le (l .dirty))
 written-bytes f r d n l w (suc zero) = place-bytes f d n l r (writer-accepts f d n l _ w .0) .2
@@ -28,6 +28,21 @@ written-bytes f r d n l w (suc (suc i)) =
     (field-bytes (f .setBytes) (l .committed))
     (bytes-append (fieldBytes (f .setBytes) (l .tentative)) (fieldBytes 1 (l .dirty)) (field-bytes (f .setBytes) (l .tentative)) (field-bytes 1 (l .dirty)))
     i
+
+lengths : (f : Form) (d n : ℕ) (l : Label) → (2 ≤ length (encode f d n l)) × (length (encode f d n l) ≤ longestLabel f)
+unfolding encode longestLabel
+lengths f d n l =
+    let c = fieldBytes (f .setBytes) (l .committed) in
+    let t = fieldBytes (f .setBytes) (l .tentative) in
+    let d = fieldBytes 1 (l .dirty) in
+    omega (
+      arith,
+      length-append c (t ++ d),
+      length-append t d,
+      length-field-le (f .setBytes) (l .committed),
+      length-field-le (f .setBytes) (l .tentative),
+      length-field-le 1 (l .dirty),
+    )
 
 pub codec : (f : Form) → Roomy f → Codec f
 unfolding Writable Readable
@@ -40,6 +55,7 @@ codec f r = record {
     λ w. (encode f d n l, length (encode f d n l), written-bytes f r d n l w, rw append-nil at (written-reads f r d n l [] h w)),
   );
   written-bytes = written-bytes f r;
+  lengths = lengths f;
 }
 
 -- document 01's form

@@ -3,7 +3,7 @@ use mathlib.Core.Path.{_≡_, refl, sym, ap, _∙_}
 use mathlib.Core.Bool.{Bool, true, false, cond, _&&_, _||_}
 use mathlib.Core.List.{List, [], _∷_, _++_, append-assoc}
 use Prim.Native.Nat.{ℕ, zero, suc, _+_, _*_, _/_, _%_, _^_, _≤_, _<_}
-use native.Mathlib.Nat.{mul-zero, mul-one, add-zero, mod-eq-of-lt}
+use native.Mathlib.Nat.{le-of-eq, mul-zero, mul-one, add-zero, mod-eq-of-lt}
 use native.Mathlib.Omega.{arith}
 use lib.Dec.{eqb, eqb·suc-zero}
 use lib.ListN.{length, getD, take, drop, length-drop, take-append-drop}
@@ -11,7 +11,7 @@ use lib.Seq.{drop-drop, drop-at, getD-drop}
 use borrow.Author.Tests.{eqb-false, ne-eqb}
 use Rattle.label.specs.Form.{Form}
 use Rattle.label.specs.Bytes.{present, littleEndian, fieldBytes, value, fieldAt}
-use Rattle.label.specs.Codec.{Bytes}
+use Rattle.label.specs.Codec.{AreBytes}
 use Rattle.label.proofs.Numbers.{length-little-endian, value-little-endian, little-endian-value, little-endian-bytes}
 
 pub present-le : (v : ℕ) → present v ≤ 1
@@ -27,7 +27,11 @@ pub length-field : (k v : ℕ) → length (fieldBytes k v) ≡ k * present v
 length-field k zero = sym (mul-zero k)
 length-field k (suc v) = length-little-endian k (suc v) ∙ sym (mul-one k)
 
-pub field-bytes : (k v : ℕ) → Bytes (fieldBytes k v)
+pub length-field-le : (k v : ℕ) → length (fieldBytes k v) ≤ k
+length-field-le k zero = omega arith
+length-field-le k (suc v) = le-of-eq (length-little-endian k (suc v))
+
+pub field-bytes : (k v : ℕ) → AreBytes (fieldBytes k v)
 field-bytes k zero i = omega arith
 field-bytes k (suc v) i = little-endian-bytes k (suc v) i
 
@@ -51,7 +55,7 @@ field-not-empty (suc v) = eqb·suc-zero v
 -- ---- read, then written
 
 -- a field that is read, unless it is present and 0, has the bit and the bytes that it is written with
-pub field-written : (s : List ℕ) (bit k at : ℕ) → bit < 2 → at + k * bit ≤ length s → Bytes s → (eqb bit 1 && eqb (fieldAt s bit k at) 0) ≡ false
+pub field-written : (s : List ℕ) (bit k at : ℕ) → bit < 2 → at + k * bit ≤ length s → AreBytes s → (eqb bit 1 && eqb (fieldAt s bit k at) 0) ≡ false
     → (present (fieldAt s bit k at) ≡ bit) × (drop at s ≡ fieldBytes k (fieldAt s bit k at) ++ drop (at + k * bit) s)
 unfolding fieldAt
 field-written s zero k at h l b e = (refl, rw (mul-zero k, add-zero at))

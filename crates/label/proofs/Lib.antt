@@ -1,4 +1,5 @@
 -- The laws of labels, for every form.
+pub mod Order
 pub mod Numbers
 pub mod Accepting
 pub mod Fields

@@ -8,7 +8,7 @@ use lib.Arith.{lt-one}
 use lib.Pow.{shr-lt}
 use lib.ListN.{length, getD, take, drop}
 use Rattle.label.specs.Bytes.{littleEndian, value}
-use Rattle.label.specs.Codec.{Bytes}
+use Rattle.label.specs.Codec.{AreBytes}
 
 pub length-little-endian : (k v : ℕ) → length (littleEndian k v) ≡ k
 unfolding littleEndian
@@ -21,7 +21,7 @@ value-little-endian zero v rest h = sym (lt-one h)
 value-little-endian (suc k) v rest h =
     rw (value-little-endian k (v / 256) rest (shr-lt (8 * k) 8 (rw (mul-suc 8 k) at h))) (omega arith)
 
-pub little-endian-value : (k : ℕ) (s : List ℕ) → k ≤ length s → Bytes s → littleEndian k (value k s) ≡ take k s
+pub little-endian-value : (k : ℕ) (s : List ℕ) → k ≤ length s → AreBytes s → littleEndian k (value k s) ≡ take k s
 unfolding littleEndian value
 little-endian-value zero s h b = refl
 little-endian-value (suc k) [] h b = absurd (omega arith)
@@ -31,7 +31,7 @@ little-endian-value (suc k) (x ∷ s) h b =
     rw (low, high, little-endian-value k s (omega arith) (λ i. b (suc i)))
 
 -- every byte of a number is a byte
-pub little-endian-bytes : (k v : ℕ) → Bytes (littleEndian k v)
+pub little-endian-bytes : (k v : ℕ) → AreBytes (littleEndian k v)
 unfolding littleEndian
 little-endian-bytes zero v i = omega arith
 little-endian-bytes (suc k) v zero = omega arith

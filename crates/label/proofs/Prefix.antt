@@ -12,7 +12,7 @@ use borrow.Author.Tests.{ltb-true, ltb-false, lt-ltb}
 use Rattle.sets.proofs.Tests.{same-test}
 use Rattle.label.specs.Form.{Form}
 use Rattle.label.specs.Bytes.{labelLength, value, fieldAt, fieldsOf}
-use Rattle.label.specs.Reading.{readRefusal, judged, reading}
+use Rattle.label.specs.Reading.{readRefusals, readRefusal, judged, reading}
 use Rattle.label.specs.declared.Label.{Label}
 
 -- the value of k bytes depends on those alone
@@ -55,7 +55,7 @@ at-least-two f map = omega arith
 
 refusal-prefix : (f : Form) (s : List ℕ) (map d n : ℕ) (l : Label)
     → readRefusal f (length (take (labelLength f map) s)) map d n l ≡ readRefusal f (length s) map d n l
-unfolding readRefusal
+unfolding readRefusal readRefusals
 refusal-prefix f s map d n l =
     rw (short-prefix s (labelLength f map) 2 (at-least-two f map), short-prefix s (labelLength f map) (labelLength f map) (le-refl _))
 

@@ -12,12 +12,11 @@ use borrow.Author.Tests.{leb-false, eqb-true, eqb-false}
 use Rattle.sets.proofs.Tests.{Test, passes, fails, test, or-parts}
 use Rattle.label.specs.Form.{Form, Roomy}
 use Rattle.label.specs.Bytes.{present, mapByte, placeByte, fieldBytes, encode, labelLength, fieldAt, fieldsOf}
-use Rattle.label.specs.Refusals.{wrongSet}
 use Rattle.label.specs.Reading.{emptyField, readRefusal, found, refused, judged, reading}
-use Rattle.label.specs.Codec.{Bytes, Writable}
+use Rattle.label.specs.Codec.{AreBytes, Writable}
 use Rattle.label.specs.declared.Label.{Label}
 use Rattle.label.specs.declared.Reading.{Reading}
-use Rattle.label.proofs.Accepting.{Proper, Passed, reader-passes, passed, writer-accepts, in-range, set-fits}
+use Rattle.label.proofs.Accepting.{Proper, Passed, reader-passes, passed, writer-accepts, in-range, sets-fit}
 use Rattle.label.proofs.Fields.{present-le, length-field, field-read, field-behind, field-not-empty, field-written}
 
 -- the bytes of a label's fields, and what follows them
@@ -101,14 +100,13 @@ pub written-reads : (f : Form) → Roomy f → (d n : ℕ) (l : Label) (rest : L
 unfolding Writable encode
 written-reads f r d n l rest hd w =
     let p : Proper f d n l = writer-accepts f d n l _ w .0 in
-    let sets = or-parts (wrongSet (l .committed) d n) (wrongSet (l .tentative) d n) (p .sets) in
-    let most = in-range f n (p .count) .1 in
+    let fits = sets-fit f d n l r p in
     let place = place-bytes f d n l r p in
     let bits = map-bits f l in
     let long : length (encode f d n l) ≤ length (encode f d n l ++ rest) = rw (length-append (encode f d n l) rest) (omega arith) in
     read-as f (encode f d n l ++ rest) (mapByte f l) d n l refl (place .0) (place .1)
     (fields-read f _ rest (mapByte f l) l bits (ap (drop 2) (encode-then f d n l rest))
-    (set-fits f (l .committed) d n r most (sets .0)) (set-fits f (l .tentative) d n r most (sets .1)) hd)
+    (fits .0) (fits .1) hd)
     (record {
       two = omega arith;
       fixed = bits .fixed;
@@ -149,7 +147,7 @@ read-parts f s d n l len e =
       passes-all = rw (number, disks, label) at (reader-passes f (length s) (getD s 0 0) _ _ _ (q .0));
     }
 
-fields-written : (f : Form) (s : List ℕ) (map : ℕ) → labelLength f map ≤ length s → map / 8 ≡ f .fixedBits → Bytes s → emptyField map (fieldsOf f s map) ≡ false
+fields-written : (f : Form) (s : List ℕ) (map : ℕ) → labelLength f map ≤ length s → map / 8 ≡ f .fixedBits → AreBytes s → emptyField map (fieldsOf f s map) ≡ false
     → MapBits f map (fieldsOf f s map) × (drop 2 s ≡ fieldsThen f (fieldsOf f s map) (drop (labelLength f map) s))
 unfolding fieldsOf emptyField labelLength
 fields-written f s map h fixed b e =
@@ -167,7 +165,7 @@ two-first [] h = absurd (omega arith)
 two-first (x ∷ []) h = absurd (omega arith)
 two-first (x ∷ y ∷ s) h = refl
 
-pub one-way : (f : Form) (s : List ℕ) (d n : ℕ) (l : Label) (len : ℕ) → Bytes s → reading f s ≡ found d n l len
+pub one-way : (f : Form) (s : List ℕ) (d n : ℕ) (l : Label) (len : ℕ) → AreBytes s → reading f s ≡ found d n l len
     → (take len s ≡ encode f d n l) × (len ≡ length (encode f d n l))
 unfolding placeByte
 one-way f s d n l len b e =

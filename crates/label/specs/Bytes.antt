@@ -1,4 +1,4 @@
--- Document 01, "Label bytes". A label is the bytes that encode it; the reader's parts of a string of bytes follow below.
+-- Document 01, "Label bytes": the bytes that a label is written as, and where each part of a label is found in bytes.
 use mathlib.Core.Bool.{Bool, cond}
 use mathlib.Core.List.{List, [], _∷_, _++_}
 use Prim.Native.Nat.{ℕ, zero, suc, _+_, _-_, _*_, _/_, _%_}
@@ -37,6 +37,10 @@ unfoldable pub encode : Form → ℕ → ℕ → Label → List ℕ
 encode f d n l =
     mapByte f l ∷ placeByte f d n ∷
     (fieldBytes (f .setBytes) (l .committed) ++ (fieldBytes (f .setBytes) (l .tentative) ++ fieldBytes 1 (l .dirty)))
+
+-- "Length 2 to 5": the length of a label that has every field
+unfoldable pub longestLabel : Form → ℕ
+longestLabel f = 2 + f .setBytes + f .setBytes + 1
 
 -- ---- bytes as a label
 

@@ -2,17 +2,17 @@
 use mathlib.Core.Path.{_≡_}
 use mathlib.Core.Logic.{_↔_}
 use mathlib.Core.List.{List, _++_}
-use Prim.Native.Nat.{ℕ, _<_}
+use Prim.Native.Nat.{ℕ, _≤_, _<_}
 use lib.ListN.{length, getD, take}
 use Rattle.label.specs.Form.{Form}
-use Rattle.label.specs.Bytes.{labelLength, encode}
+use Rattle.label.specs.Bytes.{encode, longestLabel, labelLength}
 use Rattle.label.specs.Reading.{reading, found}
 use Rattle.label.specs.Writing.{writeRefusal}
 use Rattle.label.specs.declared.Label.{Label}
 
 -- every element is a byte
-abbrev pub Bytes : List ℕ → Type 0
-Bytes s = (i : ℕ) → getD s i 0 < 256
+abbrev pub AreBytes : List ℕ → Type 0
+AreBytes s = (i : ℕ) → getD s i 0 < 256
 
 -- the writer takes this label of disk d of n, given room for it
 unfoldable pub Writable : Form → ℕ → ℕ → Label → Type 0
@@ -20,18 +20,20 @@ Writable f d n l = writeRefusal f d n l (length (encode f d n l)) ≡ 0
 
 -- some bytes are read as this label of disk d of n
 unfoldable pub Readable : Form → ℕ → ℕ → Label → Type 0
-Readable f d n l = (s : List ℕ) × (len : ℕ) × Bytes s × (reading f s ≡ found d n l len)
+Readable f d n l = (s : List ℕ) × (len : ℕ) × AreBytes s × (reading f s ≡ found d n l len)
 
 pub record Codec (f : Form) : Type 0 where
   -- what is written reads back as the same number, n, fields and length, whatever follows it
   pub written-reads : (d n : ℕ) (l : Label) (rest : List ℕ) → l .dirty < 256 → Writable f d n l
       → reading f (encode f d n l ++ rest) ≡ found d n l (length (encode f d n l))
   -- bytes that are read as a label are exactly what writing that label gives
-  pub one-way : (s : List ℕ) (d n : ℕ) (l : Label) (len : ℕ) → Bytes s → reading f s ≡ found d n l len
+  pub one-way : (s : List ℕ) (d n : ℕ) (l : Label) (len : ℕ) → AreBytes s → reading f s ≡ found d n l len
       → (take len s ≡ encode f d n l) × (len ≡ length (encode f d n l))
   -- "what follows is not read": strings that agree on as many bytes as the map asks are read alike, refused or not
   pub read-alike : (s t : List ℕ) → take (labelLength f (getD s 0 0)) s ≡ take (labelLength f (getD s 0 0)) t → reading f s ≡ reading f t
   -- a readable label is one that the writer accepts, and the other way round
   pub readable-iff-writable : (d n : ℕ) (l : Label) → l .dirty < 256 → Readable f d n l ↔ Writable f d n l
   -- what is written are bytes
-  pub written-bytes : (d n : ℕ) (l : Label) → Writable f d n l → Bytes (encode f d n l)
+  pub written-bytes : (d n : ℕ) (l : Label) → Writable f d n l → AreBytes (encode f d n l)
+  -- "Length 2 to 5"
+  pub lengths : (d n : ℕ) (l : Label) → (2 ≤ length (encode f d n l)) × (length (encode f d n l) ≤ longestLabel f)

@@ -1,35 +1,40 @@
 -- Document 01, "Label reading".
 use mathlib.Core.Bool.{Bool, cond, not, _&&_, _||_}
-use mathlib.Core.List.{List}
+use mathlib.Core.List.{List, [], _∷_}
 use Prim.Native.Nat.{ℕ, _+_, _/_, _%_}
 use lib.Dec.{eqb, ltb, leb}
 use lib.ListN.{length, getD}
 use Rattle.label.specs.Form.{Form}
 use Rattle.label.specs.Bytes.{labelLength, fieldsOf}
-use Rattle.label.specs.Refusals.{refuseIf, outside, wrongSet}
+use Rattle.label.specs.Refusals.{firstOf, outside, wrongSets}
 use Rattle.label.specs.declared.Label.{Label}
 use Rattle.label.specs.declared.Reading.{Reading}
 
 -- "a present field is 0"
 unfoldable pub emptyField : ℕ → Label → Bool
 emptyField map l =
-    eqb (map % 2) 1 && eqb (l .committed) 0 || eqb (map / 2 % 2) 1 && eqb (l .tentative) 0 || eqb (map / 4 % 2) 1 && eqb (l .dirty) 0
+    (eqb (map % 2) 1 && eqb (l .committed) 0)
+    || (eqb (map / 2 % 2) 1 && eqb (l .tentative) 0)
+    || (eqb (map / 4 % 2) 1 && eqb (l .dirty) 0)
 
--- "Its refusals": of so many bytes with this map, number d, n and fields.
-unfoldable pub readRefusal : Form → ℕ → ℕ → ℕ → ℕ → Label → ℕ
-readRefusal f len map d n l =
+-- "Its refusals", for so many bytes with this map, number d, n and fields.
+unfoldable pub readRefusals : Form → ℕ → ℕ → ℕ → ℕ → Label → List (ℕ × Bool)
+readRefusals f len map d n l =
     -- "16, fewer than 2 bytes."
-    refuseIf (ltb len 2) 16
-    -- "17, a bit from 3 up stands in the map", other than the form's own.
-    (refuseIf (not (eqb (map / 8) (f .fixedBits))) 17
+    (16, ltb len 2) ∷
+    -- "17, a bit from 3 up stands in the map": one that the form does not fix.
+    (17, not (eqb (map / 8) (f .fixedBits))) ∷
     -- "18, n outside 1 to 8 or the number not below n."
-    (refuseIf (outside f n || leb n d) 18
+    (18, outside f n || leb n d) ∷
     -- "16, fewer bytes than the map asks."
-    (refuseIf (ltb len (labelLength f map)) 16
+    (16, ltb len (labelLength f map)) ∷
     -- "19, a present field is 0, first in bit order."
-    (refuseIf (emptyField map l) 19
-    -- "20, a C or T that is not 0 names a disk from n up or omits its own disk."
-    (refuseIf (wrongSet (l .committed) d n || wrongSet (l .tentative) d n) 20 0)))))
+    (19, emptyField map l) ∷
+    (20, wrongSets l d n) ∷
+    []
+
+unfoldable pub readRefusal : Form → ℕ → ℕ → ℕ → ℕ → Label → ℕ
+readRefusal f len map d n l = firstOf (readRefusals f len map d n l)
 
 abbrev pub found : ℕ → ℕ → Label → ℕ → Reading
 found d n l len = record { refusal = 0; number = d; disks = n; label = l; length = len }

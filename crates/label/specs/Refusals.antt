@@ -1,14 +1,21 @@
--- What refusals of labels ask, and how the first that applies is found.
+-- Refusals: which one a call gives, and what those of labels ask.
 use mathlib.Core.Bool.{Bool, cond, not, _&&_, _||_}
+use mathlib.Core.List.{List, [], _∷_}
 use Prim.Native.Nat.{ℕ}
 use lib.Dec.{eqb, ltb}
 use Rattle.sets.specs.Sets.{has, below}
 use Rattle.label.specs.Form.{Form}
+use Rattle.label.specs.declared.Label.{Label}
 
--- "Each refusal falls in the order of its paragraph, on its condition only": the number if the condition holds, and else what the later
--- ones give; 0 is no refusal.
-unfoldable pub refuseIf : Bool → ℕ → ℕ → ℕ
-refuseIf unfit number later = cond unfit number later
+-- A paragraph of refusals: each one's number, and whether its condition holds. "Each refusal falls in the order of its paragraph, on its
+-- condition only." 0 is no refusal: "A done call gives 0."
+unfoldable pub firstOf : List (ℕ × Bool) → ℕ
+firstOf [] = 0
+firstOf (refusal ∷ later) = cond (refusal .1) (refusal .0) (firstOf later)
+
+-- the same, one refusal at a time: what the earlier ones gave, or else this one
+unfoldable pub orElse : ℕ → Bool → ℕ → ℕ
+orElse earlier unfit number = cond (eqb earlier 0) (cond unfit number 0) earlier
 
 -- "n outside 1 to 8"
 unfoldable pub outside : Form → ℕ → Bool
@@ -17,3 +24,6 @@ outside f n = ltb n 1 || ltb (f .mostDisks) n
 -- "a C or T that is not 0 names a disk from n up or omits its own disk"
 unfoldable pub wrongSet : ℕ → ℕ → ℕ → Bool
 wrongSet set d n = not (eqb set 0) && (not (below set n) || not (has set d))
+
+unfoldable pub wrongSets : Label → ℕ → ℕ → Bool
+wrongSets l d n = wrongSet (l .committed) d n || wrongSet (l .tentative) d n

@@ -1,26 +1,26 @@
 -- Document 01, "Label writing".
 use mathlib.Core.Bool.{Bool, cond, _||_}
-use mathlib.Core.List.{List, _++_}
+use mathlib.Core.List.{List, [], _∷_, _++_}
 use Prim.Native.Nat.{ℕ, _+_}
 use lib.Dec.{eqb, ltb, leb}
 use lib.ListN.{length, take, drop}
 use Rattle.label.specs.Form.{Form}
 use Rattle.label.specs.Bytes.{encode}
-use Rattle.label.specs.Refusals.{refuseIf, outside, wrongSet}
+use Rattle.label.specs.Refusals.{firstOf, outside, wrongSets}
 use Rattle.label.specs.declared.Label.{Label}
 use Rattle.label.specs.declared.Written.{Written}
 
--- "Label writing: 4. 8. 20. 21": for disk d of n, into so many bytes.
+-- "Label writing: 4. 8. 20. 21, the output is shorter than the label." For disk d of n, into so many bytes.
+unfoldable pub writeRefusals : Form → ℕ → ℕ → Label → ℕ → List (ℕ × Bool)
+writeRefusals f d n l room =
+    (4, outside f n) ∷
+    (8, leb n d) ∷
+    (20, wrongSets l d n) ∷
+    (21, ltb room (length (encode f d n l))) ∷
+    []
+
 unfoldable pub writeRefusal : Form → ℕ → ℕ → Label → ℕ → ℕ
-writeRefusal f d n l room =
-    -- "4, n outside 1 to 8."
-    refuseIf (outside f n) 4
-    -- "8, d is not below n."
-    (refuseIf (leb n d) 8
-    -- "20, a C or T that is not 0 names a disk from n up or omits its own disk."
-    (refuseIf (wrongSet (l .committed) d n || wrongSet (l .tentative) d n) 20
-    -- "21, the output is shorter than the label."
-    (refuseIf (ltb room (length (encode f d n l))) 21 0)))
+writeRefusal f d n l room = firstOf (writeRefusals f d n l room)
 
 -- "It yields the label's length, 0 if refused"
 unfoldable pub written : Form → ℕ → ℕ → Label → ℕ → Written

@@ -2,7 +2,7 @@
 use sets::Mask;
 
 mod reader;
-mod refusal;
+pub mod refusal;
 mod rules;
 mod writer;
 

@@ -11,10 +11,10 @@ use crate::refusal::LABEL_EMPTY_FIELD;
 use crate::refusal::LABEL_MAP;
 use crate::refusal::LABEL_PLACE;
 use crate::refusal::LABEL_SET;
-use crate::refusal::refuse_if;
+use crate::refusal::or_else;
 use crate::rules::label_length;
 use crate::rules::outside;
-use crate::rules::wrong_set;
+use crate::rules::wrong_sets;
 
 // The byte at a place, 0 past the end: every part of a label can then be fetched before the first refusal is looked for.
 fn byte_at(bytes: &[u8], at: usize) -> u8
@@ -56,17 +56,16 @@ fn empty_field(map: u8, label: Label) -> bool
 fn read_refusal(length: usize, map: u8, number: usize, disks: usize, label: Label) -> u8
     ensures { λ r. ⌜ r ≡ readRefusal narrow length map number disks label ⌝ }
 {
-    let needed = label_length(map);
     let place = outside(disks) | (disks <= number);
+    let needed = label_length(map);
     let empty = empty_field(map, label);
-    let committed = wrong_set(label.committed, number, disks);
-    let tentative = wrong_set(label.tentative, number, disks);
-    let sets = refuse_if(committed | tentative, LABEL_SET, 0);
-    let present = refuse_if(empty, LABEL_EMPTY_FIELD, sets);
-    let whole = refuse_if(length < needed, LABEL_CUT_SHORT, present);
-    let placed = refuse_if(place, LABEL_PLACE, whole);
-    let mapped = refuse_if(map / 8 != 0, LABEL_MAP, placed);
-    refuse_if(length < 2, LABEL_CUT_SHORT, mapped)
+    let sets = wrong_sets(label, number, disks);
+    let first = or_else(0, length < 2, LABEL_CUT_SHORT);
+    let first = or_else(first, map / 8 != 0, LABEL_MAP);
+    let first = or_else(first, place, LABEL_PLACE);
+    let first = or_else(first, length < needed, LABEL_CUT_SHORT);
+    let first = or_else(first, empty, LABEL_EMPTY_FIELD);
+    or_else(first, sets, LABEL_SET)
 }
 
 // What these parts yield: the label, or nothing but the refusal's number.

@@ -1,6 +1,6 @@
-// Document 01's refusal numbers, as far as labels have them, and the chain that picks the first that applies.
+// Document 01's refusal numbers, as far as labels have them, and how the first that applies is found.
 ghost use mathlib.Core.Path.{_≡_};
-ghost use Rattle.label.specs.Refusals.{refuseIf};
+ghost use Rattle.label.specs.Refusals.{orElse};
 
 // n is outside 1 to DISKS.
 pub const DISK_COUNT: u8 = 4;
@@ -26,9 +26,14 @@ pub const LABEL_SET: u8 = 20;
 // The output is shorter than the label.
 pub const NO_ROOM: u8 = 21;
 
-// The number if the test says so, and else what the later tests gave; 0 is no refusal.
-pub fn refuse_if(unfit: bool, number: u8, later: u8) -> u8
-    ensures { λ r. ⌜ r ≡ refuseIf unfit number later ⌝ }
+// The refusals of a call go one after the other through this: what the earlier ones gave, or else this one's number if
+// its condition holds. 0 is no refusal.
+pub fn or_else(earlier: u8, unfit: bool, number: u8) -> u8
+    ensures { λ r. ⌜ r ≡ orElse earlier unfit number ⌝ }
 {
-    if unfit { number } else { later }
+    if earlier == 0 {
+        if unfit { number } else { 0 }
+    } else {
+        earlier
+    }
 }

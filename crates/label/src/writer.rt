@@ -12,10 +12,10 @@ use crate::refusal::DISK_COUNT;
 use crate::refusal::LABEL_SET;
 use crate::refusal::NO_ROOM;
 use crate::refusal::NO_SUCH_DISK;
-use crate::refusal::refuse_if;
+use crate::refusal::or_else;
 use crate::rules::label_length;
 use crate::rules::outside;
-use crate::rules::wrong_set;
+use crate::rules::wrong_sets;
 
 // The bit of a field: a field of 0 has none.
 fn present(field: u8) -> u8
@@ -34,14 +34,13 @@ fn map_byte(label: Label) -> u8
 fn write_refusal(room: usize, number: usize, disks: usize, label: Label) -> u8
     ensures { λ r. ⌜ r ≡ writeRefusal narrow number disks label room ⌝ }
 {
-    let needed = label_length(map_byte(label));
     let count = outside(disks);
-    let committed = wrong_set(label.committed, number, disks);
-    let tentative = wrong_set(label.tentative, number, disks);
-    let long = refuse_if(room < needed, NO_ROOM, 0);
-    let sets = refuse_if(committed | tentative, LABEL_SET, long);
-    let own = refuse_if(disks <= number, NO_SUCH_DISK, sets);
-    refuse_if(count, DISK_COUNT, own)
+    let sets = wrong_sets(label, number, disks);
+    let needed = label_length(map_byte(label));
+    let first = or_else(0, count, DISK_COUNT);
+    let first = or_else(first, disks <= number, NO_SUCH_DISK);
+    let first = or_else(first, sets, LABEL_SET);
+    or_else(first, room < needed, NO_ROOM)
 }
 
 fn put_byte(out: &mut [u8], at: usize, byte: u8)

@@ -1,0 +1,39 @@
+-- The first refusal of a paragraph, found one at a time. Assumes nothing.
+use mathlib.Core.Path.{_≡_, refl, _∙_}
+use mathlib.Core.Bool.{Bool, true, false, cond, not, _&&_}
+use mathlib.Core.List.{List, [], _∷_}
+use Prim.Native.Nat.{ℕ, zero, suc}
+use lib.Dec.{eqb, eqb·suc-zero}
+use borrow.Author.Tests.{not-true}
+use Rattle.sets.proofs.Tests.{and-parts}
+use Rattle.label.specs.Refusals.{firstOf, orElse}
+
+-- what a call's code computes: each refusal in turn, behind what the earlier ones gave
+abbrev pub inTurn : ℕ → List (ℕ × Bool) → ℕ
+inTurn earlier [] = earlier
+inTurn earlier (refusal ∷ later) = inTurn (orElse earlier (refusal .1) (refusal .0)) later
+
+-- no refusal has the number 0
+abbrev pub numbered : List (ℕ × Bool) → Bool
+numbered [] = true
+numbered (refusal ∷ later) = not (eqb (refusal .0) 0) && numbered later
+
+from : (earlier : ℕ) (refusals : List (ℕ × Bool)) → numbered refusals ≡ true → inTurn earlier refusals ≡ cond (eqb earlier 0) (firstOf refusals) earlier
+unfolding firstOf orElse
+from zero [] h = refl
+from (suc earlier) [] h = rw (eqb·suc-zero earlier)
+from zero ((number, unfit) ∷ later) h =
+    let parts = and-parts (not (eqb number 0)) (numbered later) h in
+    go unfit (not-true (eqb number 0) (parts .0)) (λ e. from e later (parts .1))
+  where
+    go : (b : Bool) → eqb number 0 ≡ false → ((e : ℕ) → inTurn e later ≡ cond (eqb e 0) (firstOf later) e)
+        → inTurn (cond b number 0) later ≡ cond b number (firstOf later)
+    go true z ih = rw z at (ih number)
+    go false z ih = ih 0
+from (suc earlier) (refusal ∷ later) h =
+    let parts = and-parts (not (eqb (refusal .0) 0)) (numbered later) h in
+    rw (eqb·suc-zero earlier) (rw (eqb·suc-zero earlier) at (from (suc earlier) later (parts .1)))
+
+-- so a call whose code takes its refusals in turn gives the first that applies
+pub in-turn : {given : ℕ} (refusals : List (ℕ × Bool)) → numbered refusals ≡ true → given ≡ inTurn 0 refusals → given ≡ firstOf refusals
+in-turn refusals h e = e ∙ from 0 refusals h
