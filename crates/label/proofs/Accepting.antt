@@ -1,15 +1,14 @@
 -- What it says of a label that no refusal applies. Assumes nothing.
-use mathlib.Core.Path.{_≡_, refl, sym, ap, _∙_}
-use mathlib.Core.Bool.{Bool, true, false, cond, not, _&&_, _||_, false≢true}
-use mathlib.Core.List.{List, [], _∷_}
-use Prim.Native.Nat.{ℕ, _+_, _*_, _/_, _%_, _^_, _≤_, _<_}
+use mathlib.Core.Path.{_≡_, sym}
+use mathlib.Core.Bool.{false, false≢true}
+use Prim.Native.Nat.{ℕ, _*_, _/_, _^_, _≤_, _<_}
 use native.Mathlib.Nat.{lt-of-lt-of-le}
 use native.Mathlib.Omega.{arith}
 use lib.Dec.{eqb, ltb, leb, lit<}
 use lib.Pow.{pow-pos, pow-mono}
 use lib.ListN.{length}
-use borrow.Author.Tests.{ltb-false, leb-false, eqb-true, le-ltb, lt-leb, eq-eqb, not-false}
-use Rattle.sets.specs.Sets.{has, below}
+use borrow.Author.Tests.{ltb-false, eqb-true, le-ltb, eq-eqb, not-false}
+use Rattle.sets.specs.Sets.{below}
 use Rattle.sets.proofs.Tests.{Test, passes, fails, test, or-parts}
 use Rattle.sets.proofs.Bounds.{below-pow}
 use Rattle.label.specs.Form.{Form, Roomy}
@@ -18,12 +17,7 @@ use Rattle.label.specs.Refusals.{firstOf, outside, wrongSet, wrongSets}
 use Rattle.label.specs.Reading.{emptyField, readRefusals, readRefusal}
 use Rattle.label.specs.Writing.{writeRefusals, writeRefusal}
 use Rattle.label.specs.declared.Label.{Label}
-
--- where a paragraph gives 0, its first condition does not hold, and neither do the later ones
-none-of : (number : ℕ) (unfit : Bool) (later : List (ℕ × Bool)) → 0 < number → firstOf ((number, unfit) ∷ later) ≡ 0 → (unfit ≡ false) × (firstOf later ≡ 0)
-unfolding firstOf
-none-of number true later h e = absurd (omega arith)
-none-of number false later h e = (refl, e)
+use Rattle.label.proofs.Order.{none-of}
 
 -- the label of disk d of n as both calls want it
 pub record Proper (f : Form) (d n : ℕ) (l : Label) : Type 0 where
@@ -36,11 +30,11 @@ pub record Proper (f : Form) (d n : ℕ) (l : Label) : Type 0 where
 pub writer-accepts : (f : Form) (d n : ℕ) (l : Label) (room : ℕ) → writeRefusal f d n l room ≡ 0 → Proper f d n l × (length (encode f d n l) ≤ room)
 unfolding writeRefusal writeRefusals
 writer-accepts f d n l room e =
-    let a = none-of 4 _ _ (lit< tt) e in
-    let b = none-of 8 _ _ (lit< tt) (a .1) in
-    let c = none-of 20 _ _ (lit< tt) (b .1) in
-    let g = none-of 21 _ _ (lit< tt) (c .1) in
-    (record { count = a .0; number = b .0; sets = c .0 }, ltb-false _ _ (g .0))
+    let count = none-of 4 _ _ (lit< tt) e in
+    let number = none-of 8 _ _ (lit< tt) (count .1) in
+    let sets = none-of 20 _ _ (lit< tt) (number .1) in
+    let fits = none-of 21 _ _ (lit< tt) (sets .1) in
+    (record { count = count .0; number = number .0; sets = sets .0 }, ltb-false _ _ (fits .0))
 
 pub accepted : (f : Form) (d n : ℕ) (l : Label) (room : ℕ) → Proper f d n l → length (encode f d n l) ≤ room → writeRefusal f d n l room ≡ 0
 unfolding writeRefusal writeRefusals firstOf
@@ -48,6 +42,7 @@ accepted f d n l room p h = rw (p .count, p .number, p .sets, le-ltb _ _ h)
 
 -- ---- the reader
 
+-- what a string of so many bytes with these parts passed
 pub record Passed (f : Form) (len map d n : ℕ) (l : Label) : Type 0 where
   pub two : 2 ≤ len
   pub fixed : map / 8 ≡ f .fixedBits
@@ -58,19 +53,19 @@ pub record Passed (f : Form) (len map d n : ℕ) (l : Label) : Type 0 where
 pub reader-passes : (f : Form) (len map d n : ℕ) (l : Label) → readRefusal f len map d n l ≡ 0 → Passed f len map d n l
 unfolding readRefusal readRefusals
 reader-passes f len map d n l e =
-    let a = none-of 16 _ _ (lit< tt) e in
-    let b = none-of 17 _ _ (lit< tt) (a .1) in
-    let c = none-of 18 _ _ (lit< tt) (b .1) in
-    let g = none-of 16 _ _ (lit< tt) (c .1) in
-    let h = none-of 19 _ _ (lit< tt) (g .1) in
-    let k = none-of 20 _ _ (lit< tt) (h .1) in
-    let p = or-parts (outside f n) (leb n d) (c .0) in
+    let two = none-of 16 _ _ (lit< tt) e in
+    let fixed = none-of 17 _ _ (lit< tt) (two .1) in
+    let place = none-of 18 _ _ (lit< tt) (fixed .1) in
+    let whole = none-of 16 _ _ (lit< tt) (place .1) in
+    let full = none-of 19 _ _ (lit< tt) (whole .1) in
+    let sets = none-of 20 _ _ (lit< tt) (full .1) in
+    let parts = or-parts (outside f n) (leb n d) (place .0) in
     record {
-      two = ltb-false _ _ (a .0);
-      fixed = eqb-true _ _ (not-false _ (b .0));
-      proper = record { count = p .0; number = p .1; sets = k .0 };
-      whole = ltb-false _ _ (g .0);
-      full = h .0;
+      two = ltb-false _ _ (two .0);
+      fixed = eqb-true _ _ (not-false _ (fixed .0));
+      proper = record { count = parts .0; number = parts .1; sets = sets .0 };
+      whole = ltb-false _ _ (whole .0);
+      full = full .0;
     }
 
 pub passed : (f : Form) (len map d n : ℕ) (l : Label) → Passed f len map d n l → readRefusal f len map d n l ≡ 0

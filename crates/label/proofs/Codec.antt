@@ -1,17 +1,17 @@
 -- Reading and writing agree, for every form that can hold its labels. Assumes nothing.
-use mathlib.Core.Path.{_≡_, refl, sym, ap, _∙_}
 use mathlib.Core.List.{List, [], _∷_, _++_, append-nil}
-use Prim.Native.Nat.{ℕ, zero, suc, _+_, _*_, _≤_, _<_}
+use Prim.Native.Nat.{ℕ, zero, suc}
 use native.Mathlib.Nat.{le-refl}
 use native.Mathlib.Omega.{arith}
-use lib.ListN.{length, getD, length-append}
+use lib.ListN.{length, length-append}
 use Rattle.label.specs.Form.{Form, Roomy, narrow}
 use Rattle.label.specs.Bytes.{mapByte, fieldBytes, encode, longestLabel}
-use Rattle.label.specs.Codec.{AreBytes, Writable, Readable, Codec}
-use Rattle.label.specs.declared.Label.{Label}
-use Rattle.label.proofs.Accepting.{Proper, accepted, writer-accepts}
+use Rattle.label.specs.Codec.{AreBytes, Writable, Readable, WrittenBytes, Lengths, Codec}
+use Rattle.label.proofs.Accepting.{accepted, writer-accepts}
 use Rattle.label.proofs.Fields.{present-le, length-field-le, field-bytes}
-use Rattle.label.proofs.RoundTrip.{place-bytes, written-reads, read-parts, one-way}
+use Rattle.label.proofs.Places.{place-bytes}
+use Rattle.label.proofs.WrittenRead.{written-reads}
+use Rattle.label.proofs.ReadWritten.{read-parts, one-way}
 use Rattle.label.proofs.Prefix.{read-alike}
 
 bytes-append : (s t : List ℕ) → AreBytes s → AreBytes t → AreBytes (s ++ t)
@@ -19,7 +19,7 @@ bytes-append [] t hs ht i = ht i
 bytes-append (x ∷ s) t hs ht zero = hs 0
 bytes-append (x ∷ s) t hs ht (suc i) = bytes-append s t (λ j. hs (suc j)) ht i
 
-written-bytes : (f : Form) → Roomy f → (d n : ℕ) (l : Label) → Writable f d n l → AreBytes (encode f d n l)
+written-bytes : (f : Form) → Roomy f → WrittenBytes f
 unfolding encode mapByte Writable
 written-bytes f r d n l w zero = omega (arith, r .map, present-le (l .committed), present-le (l .tentative), present-le (l .dirty))
 written-bytes f r d n l w (suc zero) = place-bytes f d n l r (writer-accepts f d n l _ w .0) .2
@@ -29,7 +29,7 @@ written-bytes f r d n l w (suc (suc i)) =
     (bytes-append (fieldBytes (f .setBytes) (l .tentative)) (fieldBytes 1 (l .dirty)) (field-bytes (f .setBytes) (l .tentative)) (field-bytes 1 (l .dirty)))
     i
 
-lengths : (f : Form) (d n : ℕ) (l : Label) → (2 ≤ length (encode f d n l)) × (length (encode f d n l) ≤ longestLabel f)
+lengths : (f : Form) → Lengths f
 unfolding encode longestLabel
 lengths f d n l =
     let c = fieldBytes (f .setBytes) (l .committed) in

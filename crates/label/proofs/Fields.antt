@@ -1,15 +1,14 @@
 -- One field: what is written of it is read back, and what is read of it is what was written. Assumes nothing.
-use mathlib.Core.Path.{_≡_, refl, sym, ap, _∙_}
-use mathlib.Core.Bool.{Bool, true, false, cond, _&&_, _||_}
-use mathlib.Core.List.{List, [], _∷_, _++_, append-assoc}
-use Prim.Native.Nat.{ℕ, zero, suc, _+_, _*_, _/_, _%_, _^_, _≤_, _<_}
+use mathlib.Core.Path.{_≡_, refl, sym, _∙_}
+use mathlib.Core.Bool.{false, _&&_}
+use mathlib.Core.List.{List, [], _∷_, _++_}
+use Prim.Native.Nat.{ℕ, zero, suc, _+_, _*_, _^_, _≤_, _<_}
 use native.Mathlib.Nat.{le-of-eq, mul-zero, mul-one, add-zero, mod-eq-of-lt}
 use native.Mathlib.Omega.{arith}
 use lib.Dec.{eqb, eqb·suc-zero}
 use lib.ListN.{length, getD, take, drop, length-drop, take-append-drop}
 use lib.Seq.{drop-drop, drop-at, getD-drop}
 use borrow.Author.Tests.{eqb-false, ne-eqb}
-use Rattle.label.specs.Form.{Form}
 use Rattle.label.specs.Bytes.{present, littleEndian, fieldBytes, value, fieldAt}
 use Rattle.label.specs.Codec.{AreBytes}
 use Rattle.label.proofs.Numbers.{length-little-endian, value-little-endian, little-endian-value, little-endian-bytes}

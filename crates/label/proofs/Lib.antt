@@ -3,7 +3,9 @@ pub mod Order
 pub mod Numbers
 pub mod Accepting
 pub mod Fields
-pub mod RoundTrip
+pub mod Places
+pub mod WrittenRead
+pub mod ReadWritten
 pub mod Prefix
 pub mod Codec
 pub mod Splicing

@@ -1,12 +1,19 @@
--- The first refusal of a paragraph, found one at a time. Assumes nothing.
+-- The first refusal of a paragraph: when there is none, and how it is found one at a time. Assumes nothing.
 use mathlib.Core.Path.{_≡_, refl, _∙_}
 use mathlib.Core.Bool.{Bool, true, false, cond, not, _&&_}
 use mathlib.Core.List.{List, [], _∷_}
-use Prim.Native.Nat.{ℕ, zero, suc}
+use Prim.Native.Nat.{ℕ, zero, suc, _<_}
+use native.Mathlib.Omega.{arith}
 use lib.Dec.{eqb, eqb·suc-zero}
 use borrow.Author.Tests.{not-true}
 use Rattle.sets.proofs.Tests.{and-parts}
 use Rattle.label.specs.Refusals.{firstOf, orElse}
+
+-- where a paragraph gives 0, its first condition does not hold, and neither do the later ones
+pub none-of : (number : ℕ) (unfit : Bool) (later : List (ℕ × Bool)) → 0 < number → firstOf ((number, unfit) ∷ later) ≡ 0 → (unfit ≡ false) × (firstOf later ≡ 0)
+unfolding firstOf
+none-of number true later h e = absurd (omega arith)
+none-of number false later h e = (refl, e)
 
 -- what a call's code computes: each refusal in turn, behind what the earlier ones gave
 abbrev pub inTurn : ℕ → List (ℕ × Bool) → ℕ

@@ -1,6 +1,5 @@
 -- The reader looks at no byte beyond those that the map asks. Assumes nothing.
 use mathlib.Core.Path.{_≡_, refl, sym, ap, ap₂, _∙_}
-use mathlib.Core.Bool.{Bool, true, false, cond}
 use mathlib.Core.List.{List}
 use Prim.Native.Nat.{ℕ, zero, suc, _+_, _*_, _/_, _%_, _≤_, _<_, min}
 use native.Mathlib.Nat.{le-refl, mod-lt, mul-one}
@@ -8,11 +7,12 @@ use native.Mathlib.Omega.{arith}
 use lib.Dec.{ltb, lit<}
 use lib.ListN.{length, getD, take, drop, length-take}
 use lib.Seq.{getD-take, getD-drop}
-use borrow.Author.Tests.{ltb-true, ltb-false, lt-ltb}
+use borrow.Author.Tests.{ltb-true, lt-ltb}
 use Rattle.sets.proofs.Tests.{same-test}
 use Rattle.label.specs.Form.{Form}
 use Rattle.label.specs.Bytes.{labelLength, value, fieldAt, fieldsOf}
 use Rattle.label.specs.Reading.{readRefusals, readRefusal, judged, reading}
+use Rattle.label.specs.Codec.{ReadAlike}
 use Rattle.label.specs.declared.Label.{Label}
 
 -- the value of k bytes depends on those alone
@@ -70,7 +70,7 @@ read-prefix f s =
       refusal-prefix f s (getD s 0 0),
     )
 
-pub read-alike : (f : Form) (s t : List ℕ) → take (labelLength f (getD s 0 0)) s ≡ take (labelLength f (getD s 0 0)) t → reading f s ≡ reading f t
+pub read-alike : (f : Form) → ReadAlike f
 read-alike f s t e =
     let two = at-least-two f (getD s 0 0) in
     let asked = labelLength f (getD s 0 0) in

@@ -1,5 +1,5 @@
 -- The writer's stores, one after the other, make the label's bytes: in document 01's form. Assumes nothing.
-use mathlib.Core.Path.{_≡_, refl, sym, ap, _∙_}
+use mathlib.Core.Path.{_≡_, refl, _∙_}
 use mathlib.Core.List.{List, [], _∷_, _++_, append-assoc}
 use Prim.Native.Nat.{ℕ, _+_, _*_}
 use native.Mathlib.Nat.{sub-zero}
@@ -10,7 +10,7 @@ use Rattle.label.specs.Bytes.{present, mapByte, placeByte, fieldBytes, e
 use Rattle.label.specs.Writing.{splice}
 use Rattle.label.specs.declared.Label.{Label}
 use Rattle.label.proofs.Fields.{length-field}
-use Rattle.label.proofs.RoundTrip.{map-bits, encode-length}
+use Rattle.label.proofs.Places.{map-bits, encode-length}
 use Rattle.label.proofs.Splicing.{splice-behind}
 
 pub narrow-length : (d n : ℕ) (l : Label) → length (encode narrow d n l) ≡ 2 + present (l .committed) + present (l .tentative) + present (l .dirty)

@@ -1,9 +1,9 @@
 -- Document 01, "Label bytes": the bytes that a label is written as, and where each part of a label is found in bytes.
-use mathlib.Core.Bool.{Bool, cond}
+use mathlib.Core.Bool.{cond}
 use mathlib.Core.List.{List, [], _∷_, _++_}
 use Prim.Native.Nat.{ℕ, zero, suc, _+_, _-_, _*_, _/_, _%_}
 use lib.Dec.{eqb}
-use lib.ListN.{length, getD, drop}
+use lib.ListN.{getD, drop}
 use Rattle.label.specs.Form.{Form}
 use Rattle.label.specs.declared.Label.{Label}
 

@@ -22,18 +22,37 @@ Writable f d n l = writeRefusal f d n l (length (encode f d n l)) ≡ 0
 unfoldable pub Readable : Form → ℕ → ℕ → Label → Type 0
 Readable f d n l = (s : List ℕ) × (len : ℕ) × AreBytes s × (reading f s ≡ found d n l len)
 
+-- What is written reads back as the same number, n, fields and length, whatever follows it.
+abbrev pub WrittenReads : Form → Type 0
+WrittenReads f = (d n : ℕ) (l : Label) (rest : List ℕ) → l .dirty < 256 → Writable f d n l
+    → reading f (encode f d n l ++ rest) ≡ found d n l (length (encode f d n l))
+
+-- Bytes that are read as a label are exactly what writing that label gives.
+abbrev pub OneWay : Form → Type 0
+OneWay f = (s : List ℕ) (d n : ℕ) (l : Label) (len : ℕ) → AreBytes s → reading f s ≡ found d n l len
+    → (take len s ≡ encode f d n l) × (len ≡ length (encode f d n l))
+
+-- "what follows is not read": strings that agree on as many bytes as the map asks are read alike, refused or not.
+abbrev pub ReadAlike : Form → Type 0
+ReadAlike f = (s t : List ℕ) → take (labelLength f (getD s 0 0)) s ≡ take (labelLength f (getD s 0 0)) t → reading f s ≡ reading f t
+
+-- A readable label is one that the writer accepts, and the other way round.
+abbrev pub ReadableIffWritable : Form → Type 0
+ReadableIffWritable f = (d n : ℕ) (l : Label) → l .dirty < 256 → Readable f d n l ↔ Writable f d n l
+
+-- What is written are bytes.
+abbrev pub WrittenBytes : Form → Type 0
+WrittenBytes f = (d n : ℕ) (l : Label) → Writable f d n l → AreBytes (encode f d n l)
+
+-- "Length 2 to 5".
+abbrev pub Lengths : Form → Type 0
+Lengths f = (d n : ℕ) (l : Label) → (2 ≤ length (encode f d n l)) × (length (encode f d n l) ≤ longestLabel f)
+
+-- The whole of it.
 pub record Codec (f : Form) : Type 0 where
-  -- what is written reads back as the same number, n, fields and length, whatever follows it
-  pub written-reads : (d n : ℕ) (l : Label) (rest : List ℕ) → l .dirty < 256 → Writable f d n l
-      → reading f (encode f d n l ++ rest) ≡ found d n l (length (encode f d n l))
-  -- bytes that are read as a label are exactly what writing that label gives
-  pub one-way : (s : List ℕ) (d n : ℕ) (l : Label) (len : ℕ) → AreBytes s → reading f s ≡ found d n l len
-      → (take len s ≡ encode f d n l) × (len ≡ length (encode f d n l))
-  -- "what follows is not read": strings that agree on as many bytes as the map asks are read alike, refused or not
-  pub read-alike : (s t : List ℕ) → take (labelLength f (getD s 0 0)) s ≡ take (labelLength f (getD s 0 0)) t → reading f s ≡ reading f t
-  -- a readable label is one that the writer accepts, and the other way round
-  pub readable-iff-writable : (d n : ℕ) (l : Label) → l .dirty < 256 → Readable f d n l ↔ Writable f d n l
-  -- what is written are bytes
-  pub written-bytes : (d n : ℕ) (l : Label) → Writable f d n l → AreBytes (encode f d n l)
-  -- "Length 2 to 5"
-  pub lengths : (d n : ℕ) (l : Label) → (2 ≤ length (encode f d n l)) × (length (encode f d n l) ≤ longestLabel f)
+  pub written-reads : WrittenReads f
+  pub one-way : OneWay f
+  pub read-alike : ReadAlike f
+  pub readable-iff-writable : ReadableIffWritable f
+  pub written-bytes : WrittenBytes f
+  pub lengths : Lengths f

@@ -17,11 +17,11 @@ use crate::rules::label_length;
 use crate::rules::outside;
 use crate::rules::wrong_sets;
 
-// The bit of a field: a field of 0 has none.
-fn present(field: u8) -> u8
-    ensures { λ r. ⌜ r ≡ present field ⌝ }
+// The bit of a field by its value: a field of 0 has none.
+fn present(value: u8) -> u8
+    ensures { λ r. ⌜ r ≡ present value ⌝ }
 {
-    if field == 0 { 0 } else { 1 }
+    if value == 0 { 0 } else { 1 }
 }
 
 fn map_byte(label: Label) -> u8

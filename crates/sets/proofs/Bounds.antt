@@ -1,12 +1,12 @@
 -- A set that names only disks below n. Assumes nothing.
-use mathlib.Core.Path.{_≡_, refl, sym, ap, _∙_}
+use mathlib.Core.Path.{_≡_, sym, _∙_}
 use mathlib.Core.Logic.{_↔_}
-use mathlib.Core.Bool.{Bool, true, false}
-use Prim.Native.Nat.{ℕ, _+_, _/_, _^_, _≤_, _<_}
+use mathlib.Core.Bool.{true}
+use Prim.Native.Nat.{ℕ, _+_, _/_, _^_, _<_}
 use native.Mathlib.Nat.{div-lt-iff-lt-mul, div-eq-of-lt, one-mul}
 use native.Mathlib.Decide.{decLt}
 use native.Mathlib.Omega.{arith}
-use lib.Dec.{eqb, ltb, lit<}
+use lib.Dec.{eqb, lit<}
 use lib.Pow.{pow-pos}
 use borrow.Author.Tests.{ltb-true, lt-ltb, eqb-true, eq-eqb}
 use Rattle.sets.specs.Sets.{has, below}
@@ -17,6 +17,7 @@ pub below-pow : (s n : ℕ) → (below s n ≡ true) ↔ (s < 2 ^ n)
 unfolding below
 below-pow s n = (ltb-true s (2 ^ n), lt-ltb s (2 ^ n))
 
+-- a set is below 2 ^ n if nothing is left of it after n shifts
 shifted-out : (s n : ℕ) → (s / 2 ^ n ≡ 0) ↔ (s < 2 ^ n)
 shifted-out s n =
     (λ e. rw one-mul at (div-lt-iff-lt-mul {x = s} {y = 1} (pow-pos n) .0 (rw e (lit< tt))), div-eq-of-lt)
@@ -28,6 +29,7 @@ below-shift s n =
     (λ e. below-pow s n .1 (shifted-out s n .0 (eqb-true _ _ e)))
     (λ e. eq-eqb _ _ (shifted-out s n .1 (below-pow s n .0 e)))
 
+-- a set below 2 ^ n has only members below n, and a set with only such members is below 2 ^ n
 pub member-below : (s n d : ℕ) → s < 2 ^ n → has s d ≡ true → d < n
 member-below s n d h e = go (decLt d n)
   where

@@ -1,8 +1,8 @@
 -- The size of a set is the number of its members. Assumes nothing.
 use mathlib.Core.Path.{_≡_, refl, sym, ap, ap₂, _∙_}
-use mathlib.Core.Bool.{Bool, true, false, cond}
-use mathlib.Core.List.{List, [], _∷_, _++_}
-use Prim.Native.Nat.{ℕ, zero, suc, _+_, _*_, _/_, _%_, _^_, _<_}
+use mathlib.Core.Bool.{cond}
+use mathlib.Core.List.{[], _∷_}
+use Prim.Native.Nat.{ℕ, zero, suc, _+_, _/_, _%_, _^_, _<_}
 use native.Mathlib.Nat.{mod-lt, mod-eq-of-lt, add-comm}
 use native.Mathlib.Numerals.{one-add}
 use native.Mathlib.Omega.{arith}
@@ -19,6 +19,7 @@ one-digit k zero h = refl
 one-digit k (suc zero) h = refl
 one-digit k (suc (suc p)) h = absurd (omega arith)
 
+-- of the k lowest bits
 size-low : (k s : ℕ) → ones (s % 2 ^ k) ≡ length (members k s)
 unfolding members has ones
 size-low zero s = ap ones (lt-one (mod-lt s (lit< tt)))

@@ -2,7 +2,7 @@
 use mathlib.Core.Path.{_≡_, refl, sym, ap, _∙_}
 use mathlib.Core.Logic.{_↔_}
 use mathlib.Core.Bool.{Bool, true, false, not, _&&_, _||_}
-use Prim.Native.Nat.{ℕ, zero, suc, _+_, _-_, _*_, _/_, _%_, _^_, _≤_, _<_, min, max}
+use Prim.Native.Nat.{ℕ, zero, suc, _-_, _*_, _/_, _%_, _^_, _<_, min, max}
 use native.Mathlib.Nat.{mod-lt, mul-mod-left, mul-div-cancel, pow-suc}
 use lib.Arith.{lt-one}
 use native.Mathlib.Numerals.{add-one}
@@ -12,7 +12,7 @@ use lib.Pow.{pow-pos, shr-lt}
 use lib.Bits.{bitAnd, bitOr, and-step, or-step, and-le-l}
 use borrow.Author.Tests.{eqb-true, eq-eqb}
 use Rattle.sets.specs.Sets.{has, subset, union, intersection, difference, singleton, all}
-use Rattle.sets.proofs.Tests.{Test, passes, fails, test, and-parts, same-test, clash}
+use Rattle.sets.proofs.Tests.{and-parts}
 use Rattle.sets.proofs.Membership.{has-empty, has-lowest-bit, has-half, same-members}
 
 -- ---- operations that work bit by bit
@@ -51,7 +51,7 @@ has-intersection =
     bitwise bitAnd min _&&_ (on-digits min _&&_ refl refl refl refl) (λ a b. omega (arith, and-step a b)) (λ a b. omega (arith, and-step a b))
 
 pub has-difference : (a b d : ℕ) → has (difference a b) d ≡ (has a d && not (has b d))
-unfolding difference
+unfolding difference intersection
 has-difference =
     bitwise (λ a b. a - bitAnd a b) (λ p q. p - min p q) (λ x y. x && not y)
     (on-digits (λ p q. p - min p q) (λ x y. x && not y) refl refl refl refl)
@@ -67,7 +67,7 @@ complement-low p x h = omega arith
 
 -- the code's way, a mask with the complement, at any width
 pub and-complement : (k a b : ℕ) → a < 2 ^ k → b < 2 ^ k → bitAnd a (2 ^ k - 1 - b) ≡ difference a b
-unfolding difference
+unfolding difference intersection
 and-complement zero a b ha hb = rw (lt-one ha)
 and-complement (suc k) a b ha hb =
     let pb : b < 2 ^ k * 2 = rw (pow-suc 2 k) at hb in

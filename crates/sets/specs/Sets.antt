@@ -1,5 +1,5 @@
 -- Sets of disks as numbers. Document 01: "A set of disks is one byte, bit d for disk d." Nothing here depends on how many bits a set has.
-use mathlib.Core.Bool.{Bool, true, false, cond}
+use mathlib.Core.Bool.{Bool, cond}
 use mathlib.Core.List.{List, [], _∷_, _++_}
 use Prim.Native.Nat.{ℕ, zero, suc, _-_, _/_, _%_, _^_}
 use lib.Dec.{eqb, ltb}
@@ -16,13 +16,13 @@ union a b = bitOr a b
 unfoldable pub intersection : ℕ → ℕ → ℕ
 intersection a b = bitAnd a b
 
+-- the members of a that are not in b: a without the bits that it shares with b
+unfoldable pub difference : ℕ → ℕ → ℕ
+difference a b = a - intersection a b
+
 -- each member of a is a member of b
 unfoldable pub subset : ℕ → ℕ → Bool
 subset a b = eqb (intersection a b) a
-
--- the members of a that are not in b: a without the bits that it shares with b
-unfoldable pub difference : ℕ → ℕ → ℕ
-difference a b = a - bitAnd a b
 
 unfoldable pub singleton : ℕ → ℕ
 singleton d = 2 ^ d
@@ -39,8 +39,8 @@ below s n = ltb s (2 ^ n)
 unfoldable pub size : ℕ → ℕ
 size s = ones s
 
--- "The lowest member is the one with the smallest number." 0 for the empty set, which has none. A number has fewer digits than its value,
--- so s of them are enough to look at.
+-- "The lowest member is the one with the smallest number": as many as there are zeros below the lowest bit that stands. 0 for the empty set,
+-- which has none. A number has no more digits than its value, so s of them are enough to look at.
 unfoldable pub lowest : ℕ → ℕ
 lowest s = trailingZeros s s
 

@@ -1,5 +1,4 @@
 -- `sets::all` meets its contract. Assumes nothing.
-use mathlib.Core.Path.{sym}
 use native.Mathlib.Nat.{le-antisymm}
 use borrow.Author.Needs.{needs}
 use lib.Pow.{pow-pos}

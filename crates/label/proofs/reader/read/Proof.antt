@@ -1,5 +1,4 @@
 -- `label::reader::read` meets its contract. Assumes nothing.
-use mathlib.Core.Path.{_∙_}
 use native.Mathlib.Nat.{add-zero}
 use borrow.Author.Needs.{needs}
 use Rattle.label.specs.Reading.{reading}

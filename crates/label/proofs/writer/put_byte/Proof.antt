@@ -1,5 +1,4 @@
 -- `label::writer::put_byte` meets its contract. Assumes nothing.
-use mathlib.Core.Path.{sym}
 use borrow.Author.Needs.{needs}
 use Rattle.label.proofs.Splicing.{splice-one}
 use Rattle.label.proofs.writer.put_byte.Statement.{statement}

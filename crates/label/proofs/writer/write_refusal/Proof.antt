@@ -3,7 +3,7 @@ use borrow.Author.Needs.{needs}
 use mathlib.Core.Path.{refl}
 use Rattle.label.specs.Writing.{writeRefusals, writeRefusal}
 use Rattle.label.proofs.Order.{in-turn}
-use Rattle.label.proofs.RoundTrip.{encode-length}
+use Rattle.label.proofs.Places.{encode-length}
 use Rattle.label.proofs.writer.write_refusal.Statement.{statement}
 use Rattle.label.proofs.writer.write_refusal.Tie as tie
 
