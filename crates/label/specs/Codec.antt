@@ -44,7 +44,7 @@ ReadableIffWritable f = (d n : ℕ) (l : Label) → l .dirty < 256 → Readable 
 abbrev pub WrittenBytes : Form → Type 0
 WrittenBytes f = (d n : ℕ) (l : Label) → Writable f d n l → AreBytes (encode f d n l)
 
--- "Length 2 to 5".
+-- No label is shorter than its first two bytes, or longer than one that has every field.
 abbrev pub Lengths : Form → Type 0
 Lengths f = (d n : ℕ) (l : Label) → (2 ≤ length (encode f d n l)) × (length (encode f d n l) ≤ longestLabel f)
 

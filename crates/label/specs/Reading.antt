@@ -10,7 +10,7 @@ use Rattle.label.specs.Refusals.{firstOf, outside, wrongSets}
 use Rattle.label.specs.declared.Label.{Label}
 use Rattle.label.specs.declared.Reading.{Reading}
 
--- "a present field is 0"
+-- a field whose bit of the map stands is 0
 unfoldable pub emptyField : ℕ → Label → Bool
 emptyField map l =
     (eqb (map % 2) 1 && eqb (l .committed) 0)

@@ -17,11 +17,11 @@ firstOf (refusal ∷ later) = cond (refusal .1) (refusal .0) (firstOf later)
 unfoldable pub orElse : ℕ → Bool → ℕ → ℕ
 orElse earlier unfit number = cond (eqb earlier 0) (cond unfit number 0) earlier
 
--- "n outside 1 to 8"
+-- no cabinet of this form has n disks
 unfoldable pub outside : Form → ℕ → Bool
 outside f n = ltb n 1 || ltb (f .mostDisks) n
 
--- "a C or T that is not 0 names a disk from n up or omits its own disk"
+-- "20, a C or T that is not 0 names a disk from n up or omits its own disk."
 unfoldable pub wrongSet : ℕ → ℕ → ℕ → Bool
 wrongSet set d n = not (eqb set 0) && (not (below set n) || not (has set d))
 

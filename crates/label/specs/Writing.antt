@@ -31,6 +31,6 @@ written f d n l room =
 unfoldable pub splice : ℕ → List ℕ → List ℕ → List ℕ
 splice at new old = take at old ++ (new ++ drop (at + length new) old)
 
--- "bytes beyond the label stay", and all of them if refused
+-- "bytes beyond the label stay"; refused, "no change in the state or any buffer"
 unfoldable pub writtenBytes : Form → ℕ → ℕ → Label → List ℕ → List ℕ
 writtenBytes f d n l old = cond (eqb (writeRefusal f d n l (length old)) 0) (splice 0 (encode f d n l) old) old

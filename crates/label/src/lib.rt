@@ -9,7 +9,8 @@ mod writer;
 pub use reader::read;
 pub use writer::write;
 
-// A committed set of 0: the disk has never been a member. A tentative set of 0: none. Bit r of dirty stands for region r.
+// "Each disk has a label: the committed set C, the tentative set T (0 means none), and the dirty map, bit r for region r. C
+// of 0 means the disk has never been a member."
 pub struct Label {
     pub committed: Mask,
     pub tentative: Mask,

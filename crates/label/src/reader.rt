@@ -52,7 +52,7 @@ fn empty_field(map: u8, label: Label) -> bool
         | ((map / 4 % 2 == 1) & (label.dirty == 0))
 }
 
-// The first refusal that applies to so many bytes with these parts, 0 if none does.
+// The first refusal that applies to `length` bytes with these parts, 0 if none does.
 fn read_refusal(length: usize, map: u8, number: usize, disks: usize, label: Label) -> u8
     ensures { λ r. ⌜ r ≡ readRefusal narrow length map number disks label ⌝ }
 {

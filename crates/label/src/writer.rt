@@ -74,7 +74,7 @@ fn put(out: &mut [u8], number: usize, disks: usize, label: Label) -> usize
     put_field(out, third, label.dirty)
 }
 
-// The label of disk number of so many, as the first bytes of the output. The bytes beyond it stay, and all of them if
+// Writes the label of disk `number` of `disks` to the front of the output. The bytes beyond it stay, and all of them if
 // it is refused.
 pub fn write(out: &mut [u8], number: usize, disks: usize, label: Label) -> Written
     ensures answer { λ r. ⌜ r ≡ written narrow number disks label (length (now (out .entry))) ⌝ }
