@@ -1,4 +1,4 @@
--- The laws of labels, for every form.
+-- The laws of labels: of every form, but for Stores, which is of document 01's.
 pub mod Order
 pub mod Numbers
 pub mod Accepting

@@ -59,7 +59,7 @@ unfolding readRefusal readRefusals
 refusal-prefix f s map d n l =
     rw (short-prefix s (labelLength f map) 2 (at-least-two f map), short-prefix s (labelLength f map) (labelLength f map) (le-refl _))
 
-pub read-prefix : (f : Form) (s : List ℕ) → reading f (take (labelLength f (getD s 0 0)) s) ≡ reading f s
+read-prefix : (f : Form) (s : List ℕ) → reading f (take (labelLength f (getD s 0 0)) s) ≡ reading f s
 unfolding reading judged
 read-prefix f s =
     let two = at-least-two f (getD s 0 0) in

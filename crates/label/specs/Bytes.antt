@@ -32,7 +32,8 @@ abbrev pub fieldBytes : ℕ → ℕ → List ℕ
 fieldBytes k zero = []
 fieldBytes k (suc v) = littleEndian k (suc v)
 
--- "Then one byte for each field whose bit stands, in bit order."
+-- "Then one byte for each field whose bit stands, in bit order." A form may give a set more; the dirty map has one in each, for at most 8
+-- regions.
 unfoldable pub encode : Form → ℕ → ℕ → Label → List ℕ
 encode f d n l =
     mapByte f l ∷ placeByte f d n ∷

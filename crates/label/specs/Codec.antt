@@ -22,7 +22,7 @@ Writable f d n l = writeRefusal f d n l (length (encode f d n l)) ≡ 0
 unfoldable pub Readable : Form → ℕ → ℕ → Label → Type 0
 Readable f d n l = (s : List ℕ) × (len : ℕ) × AreBytes s × (reading f s ≡ found d n l len)
 
--- What is written reads back as the same number, n, fields and length, whatever follows it.
+-- What is written reads back as the same number, n, fields and length, whatever follows it. (A dirty map is a byte.)
 abbrev pub WrittenReads : Form → Type 0
 WrittenReads f = (d n : ℕ) (l : Label) (rest : List ℕ) → l .dirty < 256 → Writable f d n l
     → reading f (encode f d n l ++ rest) ≡ found d n l (length (encode f d n l))

@@ -1,7 +1,7 @@
 // Sets of disks as masks: bit d stands for disk d (document 01, "What the cabinet is").
 //
-// A set's width stands here, in Mask and DISKS and in the two counts that name the integer type. No promise and no
-// proof depends on it.
+// A set's width stands here, in Mask and DISKS and in the two counts that name the integer type. No definition, law or
+// proof names it.
 ghost use mathlib.Core.Path.{_≡_};
 ghost use Prim.Native.Nat.{_<_, _≤_};
 ghost use Rattle.sets.specs.Sets.{has, union, intersection, difference, subset, singleton, all, below, size, lowest};
@@ -66,6 +66,7 @@ pub fn below(s: Mask, n: usize) -> bool
     if n < DISKS { s >> n == 0 } else { true }
 }
 
+// A function of its own, so that no count has to be proved to fit.
 fn wide(x: u32) -> usize
     ensures { λ r. ⌜ r ≡ x ⌝ }
 {
