@@ -1,0 +1,65 @@
+-- What else is proved of the calls, and of every list of them, beside demand 3.
+use mathlib.Core.Path.{_≡_}
+use mathlib.Core.Logic.{_≢_}
+use mathlib.Core.List.{List, []}
+use Prim.Native.Nat.{ℕ, _*_, _≤_}
+use lib.ListN.{length}
+use Rattle.sets.specs.Sets.{size}
+use Rattle.protocol.specs.declared.Call.the-variants.{Read, Write}
+use Rattle.protocol.specs.declared.State.{State}
+use Rattle.protocol.specs.Geometry.{mostDisks}
+use Rattle.protocol.specs.Soundness.{currentOf, live, Sound}
+use Rattle.protocol.specs.Lists.{preparations, writeList}
+use Rattle.protocol.specs.Calls.{formatOutcome, writeOutcome}
+use Rattle.protocol.specs.Saving.{saveOutcome, assembleAnswer}
+use Rattle.protocol.specs.History.{Step, Cabinet, outcomeOf}
+use Rattle.protocol.specs.Book.{Contents, replaced, carriedBy, entered}
+use Rattle.protocol.specs.Demand3.{CallIn, result, book}
+
+-- ---- soundness
+
+-- A sound state whose array has its length. That length is the array's type's, and decides no refusal.
+pub record Proper (s : State) : Type 0 where
+  pub fit : Sound s
+  pub slots : length (s .labels) ≡ mostDisks
+
+pub record SoundnessKept : Type 0 where
+  -- whatever a call is given beside a sound state, and wherever it is cut
+  pub by-calls : (x : Step) (c : Cabinet) → Proper (c .state) → Proper (outcomeOf x c .answer .state)
+  pub by-save : (s : State) (area slots : List ℕ) → Proper s → Proper (saveOutcome s area slots .answer .state)
+  pub by-format : (area output : List ℕ) (n b : ℕ) → formatOutcome area output n b .answer .refusal ≡ 0 → Proper (formatOutcome area output n b .answer .state)
+  pub by-assemble : (n b online : ℕ) (slots : List ℕ) → assembleAnswer n b online slots .refusal ≡ 0 → Proper (assembleAnswer n b online slots .state)
+  -- so no call of a list that a done fresh begins gives 1
+  pub in-lists : (n b : ℕ) (lent : List ℕ) → formatOutcome lent [] n b .answer .refusal ≡ 0
+      → (calls : List Step) (c : CallIn calls) → result n b lent c .answer .refusal ≢ 1
+
+-- ---- writes
+
+-- "A write makes at most 4 times as many stores as L has disks."
+abbrev pub WriteBound : Type 0
+WriteBound = (s : State) (k : ℕ) (bytes : List ℕ) → Sound s → length (writeList s k bytes) ≤ 4 * size (live s)
+
+-- "So a write that gives 0 counts, and one cut before that store or otherwise refused does not": what a write leaves of any contents of the book.
+module _ (c : Cabinet) (k budget : ℕ) (bytes output : List ℕ) where
+  abbrev pub refusalOf : ℕ
+  refusalOf = writeOutcome (c .state) (c .area) output k bytes budget .answer .refusal
+
+  abbrev pub enters : Contents → Contents
+  enters contents = entered (carriedBy (Write k budget) bytes c) contents
+
+  pub record Counting (contents : Contents) : Type 0 where
+    pub acknowledged : refusalOf ≡ 0 → enters contents ≡ replaced k bytes contents
+    pub refused : refusalOf ≢ 0 → refusalOf ≢ 15 → enters contents ≡ contents
+    pub cut-early : budget ≤ length (preparations (c .state .disks) (c .state .labels) (currentOf (c .state .power)) (live (c .state)) k)
+        → enters contents ≡ contents
+
+abbrev pub WritesCount : Type 0
+WritesCount = (c : Cabinet) (k budget : ℕ) (bytes output : List ℕ) (contents : Contents) → Counting c k budget bytes output contents
+
+-- ---- reads
+
+-- What the gate relies on: a read that gives 0 yields the book's block.
+abbrev pub ReadsRight : Type 0
+ReadsRight = (n b : ℕ) (lent : List ℕ) → formatOutcome lent [] n b .answer .refusal ≡ 0
+    → (calls : List Step) (c : CallIn calls) (k : ℕ) → c .this .call ≡ Read k
+    → result n b lent c .answer .refusal ≡ 0 → result n b lent c .output ≡ book n b c k

@@ -1,0 +1,44 @@
+-- Document 01, "What the cabinet is": the limits of a cabinet, and where its blocks stand.
+use mathlib.Core.List.{List, _++_}
+use Prim.Native.Nat.{ℕ, _+_, _-_, _*_, _/_}
+use lib.ListN.{take, drop}
+use Rattle.label.specs.Form.{Form, narrow}
+
+-- "n disks (1 to 8)": as many as the form of its labels allows
+abbrev pub mostDisks : ℕ
+mostDisks = narrow .mostDisks
+
+-- "b blocks a disk (1 to 64)"
+abbrev pub mostBlocks : ℕ
+mostBlocks = 64
+
+-- "A block is 64 bytes."
+abbrev pub blockSize : ℕ
+blockSize = 64
+
+-- "A region is 8 blocks, counted from block 0; the last may be short."
+abbrev pub regionSize : ℕ
+regionSize = 8
+
+unfoldable pub regionOf : ℕ → ℕ
+regionOf k = k / regionSize
+
+-- how many regions b blocks have
+unfoldable pub regions : ℕ → ℕ
+regions b = (b + (regionSize - 1)) / regionSize
+
+-- "The disk area is one lent buffer of exactly n × b × 64 bytes"
+unfoldable pub areaSize : ℕ → ℕ → ℕ
+areaSize n b = n * b * blockSize
+
+-- "block k of disk d starts at (d × b + k) × 64"
+unfoldable pub place : ℕ → ℕ → ℕ → ℕ
+place b d k = (d * b + k) * blockSize
+
+-- block k of disk d, in the area of a cabinet of b blocks
+unfoldable pub block : ℕ → List ℕ → ℕ → ℕ → List ℕ
+block b area d k = take blockSize (drop (place b d k) area)
+
+-- the area with that block replaced
+unfoldable pub withBlock : ℕ → List ℕ → ℕ → ℕ → List ℕ → List ℕ
+withBlock b area d k bytes = take (place b d k) area ++ (bytes ++ drop (place b d k + blockSize) area)

@@ -1,0 +1,15 @@
+-- Document 01 as definitions, in its order.
+pub mod Geometry
+pub mod Loops
+pub mod Soundness
+pub mod Stores
+pub mod Lists
+pub mod Naming
+pub mod Finder
+pub mod Outcomes
+pub mod Calls
+pub mod Saving
+pub mod History
+pub mod Book
+pub mod Demand3
+pub mod Claims

@@ -1,0 +1,95 @@
+-- Document 01, "Which set a restart names". "The definition speaks of all sets X and not of a search."
+use mathlib.Core.Path.{_≡_}
+use mathlib.Core.Logic.{_≢_, _⊎_}
+use mathlib.Core.Bool.{Bool, true, false, cond, _&&_, _||_}
+use mathlib.Core.List.{List, [], _∷_}
+use Prim.Native.Nat.{ℕ, _^_, _<_}
+use lib.Dec.{eqb, ltb}
+use Rattle.sets.specs.Sets.{has, subset}
+use Rattle.label.specs.declared.Label.{Label}
+use Rattle.protocol.specs.Loops.{ascending, every, some}
+use Rattle.protocol.specs.Soundness.{labelAt}
+
+pub data Stage : Type 0 where
+  first second third : Stage
+
+-- What the labels of disks in reach name.
+pub data Found : Type 0 where
+  none : Found
+  one : ℕ → Found
+  several : Found
+
+-- ---- the paper's sentences, of any set X
+
+-- what a stage asks of each member's label ..
+abbrev pub Backs : Stage → Label → ℕ → Type 0
+-- "every member has T = X"
+Backs first l x = l .tentative ≡ x
+-- "every member has T = X or C = X"
+Backs second l x = (l .tentative ≡ x) ⊎ (l .committed ≡ x)
+-- "every member has C = X"
+Backs third l x = l .committed ≡ x
+
+-- .. and that some member's has
+abbrev pub Proposes : Stage → Label → ℕ → Type 0
+Proposes first l x = Unit {0}
+-- "and some member has T = X"
+Proposes second l x = l .tentative ≡ x
+Proposes third l x = Unit {0}
+
+-- "A candidate is a non-empty set X inside R."
+pub record Candidate (stage : Stage) (online : ℕ) (labels : List Label) (x : ℕ) : Type 0 where
+  pub filled : 0 < x
+  pub inside : (d : ℕ) → has x d ≡ true → has online d ≡ true
+  pub each : (d : ℕ) → has x d ≡ true → Backs stage (labelAt labels d) x
+  pub proposed : (d : ℕ) × (has x d ≡ true) × Proposes stage (labelAt labels d) x
+
+-- how many sets have a property, and which one if it is one
+pub data Exactly (P : ℕ → Type 0) : Found → Type 0 where
+  no-set : ((x : ℕ) → P x → ⊥) → Exactly P none
+  one-set : {x : ℕ} → P x → ((y : ℕ) → P y → y ≡ x) → Exactly P (one x)
+  several-sets : {x y : ℕ} → P x → P y → x ≢ y → Exactly P several
+
+-- "The first stage with a candidate decides: one candidate is the set, more than one is refused with 14. No candidate in any stage is 13."
+pub data Names (online : ℕ) (labels : List Label) : Found → Type 0 where
+  by-first : {f : Found} → f ≢ none → Exactly (Candidate first online labels) f → Names online labels f
+  by-second : {f : Found} → f ≢ none → Exactly (Candidate first online labels) none → Exactly (Candidate second online labels) f → Names online labels f
+  by-third : {f : Found} → Exactly (Candidate first online labels) none → Exactly (Candidate second online labels) none → Exactly (Candidate third online labels) f → Names online labels f
+
+-- ---- the same as a function, with the candidates of a stage as the list of all that there are among the 2 ^ n sets of disks below n
+
+unfoldable pub backs : Stage → Label → ℕ → Bool
+backs first l x = eqb (l .tentative) x
+backs second l x = eqb (l .tentative) x || eqb (l .committed) x
+backs third l x = eqb (l .committed) x
+
+unfoldable pub proposes : Stage → Label → ℕ → Bool
+proposes first l x = true
+proposes second l x = eqb (l .tentative) x
+proposes third l x = true
+
+unfoldable pub candidate : Stage → ℕ → ℕ → List Label → ℕ → Bool
+candidate stage n online labels x =
+    ltb 0 x
+    && (subset x online
+    && (every n x (λ d. backs stage (labelAt labels d) x)
+    && some n x (λ d. proposes stage (labelAt labels d) x)))
+
+unfoldable pub candidates : Stage → ℕ → ℕ → List Label → List ℕ
+candidates stage n online labels = ascending (2 ^ n) (λ x. cond (candidate stage n online labels x) (x ∷ []) [])
+
+-- the first stage with a candidate decides
+unfoldable pub decide : List (List ℕ) → Found
+decide [] = none
+decide ([] ∷ later) = decide later
+decide ((x ∷ []) ∷ later) = one x
+decide ((x ∷ y ∷ more) ∷ later) = several
+
+unfoldable pub named : ℕ → ℕ → List Label → Found
+named n online labels =
+    decide (candidates first n online labels ∷ candidates second n online labels ∷ candidates third n online labels ∷ [])
+
+-- The function gives the answer of the paper's sentences, and they have no other.
+pub record NamedAsDefined (n online : ℕ) (labels : List Label) : Type 0 where
+  pub answers : Names online labels (named n online labels)
+  pub only : (f : Found) → Names online labels f → f ≡ named n online labels

@@ -1,0 +1,43 @@
+// Document 01's cabinet: the types of its state, its calls and their answers. The definitions over them stand in specs/,
+// the theorems in proofs/; no call runs here.
+use label::Label;
+use sets::DISKS;
+use sets::Mask;
+
+pub mod refusal;
+
+// "a power condition: either running with a current set G, or stopped with none"
+pub enum Power {
+    Stopped,
+    Running(Mask),
+}
+
+// "The state holds n, b, the labels of eight disks in an array, the set R of disks in reach, and a power condition."
+// disks is n, blocks is b, online is R.
+pub struct State {
+    pub disks: u8,
+    pub blocks: u8,
+    pub labels: [Label; DISKS],
+    pub online: Mask,
+    pub power: Power,
+}
+
+// What every call yields beside its buffers: the refusal's number, 0 if done; the number of stores made; the state.
+pub struct Answer {
+    pub refusal: u8,
+    pub stores: u16,
+    pub state: State,
+}
+
+// The calls of document 01's list, "The list and the book". Numbers are wider than the state's own, so that 256 is no disk 0;
+// the budget is the paper's supply, 0 to 65,535. A write's data and a read's output are lent beside the call.
+pub enum Call {
+    Read { block: usize },
+    Write { block: usize, budget: u16 },
+    Join { disk: usize, budget: u16 },
+    Clean { budget: u16 },
+    Restart { budget: u16 },
+    Detach { disk: usize },
+    Attach { disk: usize },
+    PowerOff,
+}
