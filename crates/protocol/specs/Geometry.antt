@@ -1,8 +1,9 @@
 -- Document 01, "What the cabinet is": the limits of a cabinet, and where its blocks stand.
-use mathlib.Core.List.{List, _++_}
+use mathlib.Core.List.{List}
 use Prim.Native.Nat.{ℕ, _+_, _-_, _*_, _/_}
 use lib.ListN.{take, drop}
-use Rattle.label.specs.Form.{Form, narrow}
+use Rattle.label.specs.Form.{narrow}
+use Rattle.label.specs.Writing.{splice}
 
 -- "n disks (1 to 8)": as many as the form of its labels allows
 abbrev pub mostDisks : ℕ
@@ -41,4 +42,4 @@ block b area d k = take blockSize (drop (place b d k) area)
 
 -- the area with that block replaced
 unfoldable pub withBlock : ℕ → List ℕ → ℕ → ℕ → List ℕ → List ℕ
-withBlock b area d k bytes = take (place b d k) area ++ (bytes ++ drop (place b d k + blockSize) area)
+withBlock b area d k bytes = splice (place b d k) bytes area

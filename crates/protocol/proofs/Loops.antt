@@ -1,0 +1,167 @@
+-- What holds of loops that go up from 0, and of the lists that they build. Assumes nothing.
+use mathlib.Core.Path.{_≡_, refl, sym, ap, _∙_}
+use mathlib.Core.Logic.{_≢_, _⊎_, inl, inr}
+use mathlib.Core.Bool.{Bool, true, false, not, cond, _&&_, _||_}
+use mathlib.Core.List.{List, [], _∷_, _++_, append-nil, append-assoc}
+use Prim.Native.Nat.{ℕ, zero, suc, _+_, _≤_, _<_}
+use native.Mathlib.Omega.{arith}
+use native.Mathlib.Decide.{ℕ-discrete, decLt}
+use lib.ListN.{length, take, length-append}
+use Rattle.sets.specs.Sets.{has, members}
+use Rattle.sets.proofs.Tests.{Test, passes, fails, test, clash, and-parts}
+use Rattle.protocol.specs.Loops.{ascending, forEach, allBelow, someBelow, every, some}
+
+pub same-or-not : (m n : ℕ) → (m ≡ n) ⊎ (m ≢ n)
+same-or-not m n = elim (ℕ-discrete m n) [ yes p ↦ inl p | no q ↦ inr q ]
+
+-- what holds below n and at n holds below n + 1
+pub or-last : (P : ℕ → Type 0) (n d : ℕ) → d < suc n → (d < n → P d) → P n → P d
+or-last P n d h low last = go (same-or-not d n)
+  where
+    go : (d ≡ n) ⊎ (d ≢ n) → P d
+    go (inl e) = rw e last
+    go (inr ne) = low (omega arith)
+
+-- ---- tests of all, and of some
+
+pub all-at : (n : ℕ) (p : ℕ → Bool) → allBelow n p ≡ true → (d : ℕ) → d < n → p d ≡ true
+unfolding allBelow
+all-at zero p h d l = absurd (omega arith)
+all-at (suc n) p h d l = let parts = and-parts (allBelow n p) (p n) h in or-last (λ e. p e ≡ true) n d l (all-at n p (parts .0) d) (parts .1)
+
+pub all-of : (n : ℕ) (p : ℕ → Bool) → ((d : ℕ) → d < n → p d ≡ true) → allBelow n p ≡ true
+unfolding allBelow
+all-of zero p h = refl
+all-of (suc n) p h = rw (all-of n p (λ d l. h d (omega arith)), h n (omega arith))
+
+pub or-either : (a b : Bool) → (a || b) ≡ true → (a ≡ true) ⊎ (b ≡ true)
+or-either true b h = inl refl
+or-either false b h = inr h
+
+or-right : (a b : Bool) → b ≡ true → (a || b) ≡ true
+or-right true b h = refl
+or-right false b h = h
+
+pub implied : (a b : Bool) → (a ≡ true → b ≡ true) → (not a || b) ≡ true
+implied true b h = h refl
+implied false b h = refl
+
+pub implies : (a b : Bool) → (not a || b) ≡ true → a ≡ true → b ≡ true
+implies true b h e = h
+implies false b h e = clash e refl
+
+some-at : (n : ℕ) (p : ℕ → Bool) → someBelow n p ≡ true → (d : ℕ) × (d < n) × (p d ≡ true)
+unfolding someBelow
+some-at zero p h = clash h refl
+some-at (suc n) p h = go (some-at n p) (or-either (someBelow n p) (p n) h)
+  where
+    go : (someBelow n p ≡ true → (d : ℕ) × (d < n) × (p d ≡ true)) → (someBelow n p ≡ true) ⊎ (p n ≡ true) → (d : ℕ) × (d < suc n) × (p d ≡ true)
+    go ih (inl e) = let (d, l, q) = ih e in (d, omega arith, q)
+    go ih (inr e) = (n, omega arith, e)
+
+some-of : (n : ℕ) (p : ℕ → Bool) (d : ℕ) → d < n → p d ≡ true → someBelow n p ≡ true
+unfolding someBelow
+some-of zero p d l e = absurd (omega arith)
+some-of (suc n) p d l e = go (some-of n p d) (same-or-not d n)
+  where
+    go : (d < n → p d ≡ true → someBelow n p ≡ true) → (d ≡ n) ⊎ (d ≢ n) → (someBelow n p || p n) ≡ true
+    go ih (inl q) = or-right (someBelow n p) (p n) (rw q at e)
+    go ih (inr q) = rw (ih (omega arith) e)
+
+module _ (n s : ℕ) (p : ℕ → Bool) where
+  pub every-at : every n s p ≡ true → (d : ℕ) → d < n → has s d ≡ true → p d ≡ true
+  unfolding every
+  every-at h d l m = implies (has s d) (p d) (all-at n _ h d l) m
+
+  pub every-of : ((d : ℕ) → d < n → has s d ≡ true → p d ≡ true) → every n s p ≡ true
+  unfolding every
+  every-of h = all-of n _ (λ d l. implied (has s d) (p d) (h d l))
+
+  pub some-member : some n s p ≡ true → (d : ℕ) × (d < n) × (has s d ≡ true) × (p d ≡ true)
+  unfolding some
+  some-member h = let (d, l, e) = some-at n _ h in let parts = and-parts (has s d) (p d) e in (d, l, parts .0, parts .1)
+
+  pub some-is : (d : ℕ) → d < n → has s d ≡ true → p d ≡ true → some n s p ≡ true
+  unfolding some
+  some-is d l m e = some-of n _ d l (rw (m, e))
+
+  -- none, where it is not some
+  pub some-not : some n s p ≡ false → (d : ℕ) → d < n → has s d ≡ true → p d ≡ false
+  some-not h d l m = go (test (p d))
+    where
+      go : Test (p d) → p d ≡ false
+      go (passes e) = clash (some-is d l m e) h
+      go (fails e) = e
+
+-- ---- what holds of each element
+
+pub data Each {A : Type 0} (P : A → Type 0) : List A → Type 0 where
+  nil : Each P []
+  cons : {x : A} {xs : List A} → P x → Each P xs → Each P (x ∷ xs)
+
+module _ {A : Type 0} {P : A → Type 0} where
+  pub each-append : {xs ys : List A} → Each P xs → Each P ys → Each P (xs ++ ys)
+  each-append nil q = q
+  each-append (cons p ps) q = cons p (each-append ps q)
+
+  pub each-take : {xs : List A} (k : ℕ) → Each P xs → Each P (take k xs)
+  each-take zero ps = nil
+  each-take (suc k) nil = nil
+  each-take (suc k) (cons p ps) = cons p (each-take k ps)
+
+  pub each-if : (t : Bool) {xs : List A} → (t ≡ true → Each P xs) → Each P (cond t xs [])
+  each-if true h = h refl
+  each-if false h = nil
+
+  pub each-unless : (t : Bool) {xs : List A} → (t ≡ false → Each P xs) → Each P (cond t [] xs)
+  each-unless true h = nil
+  each-unless false h = h refl
+
+  pub each-ascending : (n : ℕ) (f : ℕ → List A) → ((i : ℕ) → i < n → Each P (f i)) → Each P (ascending n f)
+  unfolding ascending
+  each-ascending zero f h = nil
+  each-ascending (suc n) f h = each-append (each-ascending n f (λ i l. h i (omega arith))) (h n (omega arith))
+
+  pub each-member : (n s : ℕ) (f : ℕ → List A) → ((d : ℕ) → d < n → has s d ≡ true → Each P (f d)) → Each P (forEach n s f)
+  unfolding forEach
+  each-member n s f h = each-ascending n _ (λ d l. each-if (has s d) (h d l))
+
+-- what holds of each holds of each by a weaker property
+pub each-map : {A : Type 0} {P Q : A → Type 0} {xs : List A} → ((x : A) → P x → Q x) → Each P xs → Each Q xs
+each-map f nil = nil
+each-map f (cons p ps) = cons (f _ p) (each-map f ps)
+
+-- ---- how a loop begins, and how long its list is
+
+-- a loop that gives nothing before a begins with what it gives for a
+module _ {A : Type 0} (f : ℕ → List A) (a : ℕ) (nothing : (i : ℕ) → i < a → f i ≡ []) where
+  nothing-before : (i : ℕ) → i ≤ a → ascending i f ≡ []
+  unfolding ascending
+  nothing-before zero l = refl
+  nothing-before (suc i) l = rw (nothing-before i (omega arith)) (nothing i l)
+
+  pub begins : (n : ℕ) → a < n → (later : List A) × (ascending n f ≡ f a ++ later)
+  unfolding ascending
+  begins zero l = absurd (omega arith)
+  begins (suc n) l = go (same-or-not a n) (begins n)
+    where
+      go : (a ≡ n) ⊎ (a ≢ n) → (a < n → (later : List A) × (ascending n f ≡ f a ++ later)) → (later : List A) × (ascending n f ++ f n ≡ f a ++ later)
+      go (inl e) ih = ([], rw (← e, nothing-before a (omega arith), append-nil))
+      go (inr ne) ih = let (later, e) = ih (omega arith) in (later ++ f n, rw e (append-assoc (f a) later (f n)))
+
+-- a loop over members that gives at most one element for each is no longer than the set is large
+pub for-length-le : {A : Type 0} (n s : ℕ) (f : ℕ → List A) → ((d : ℕ) → length (f d) ≤ 1) → length (forEach n s f) ≤ length (members n s)
+unfolding forEach ascending members
+for-length-le zero s f h = omega arith
+for-length-le (suc n) s f h =
+    omega (
+      arith,
+      length-append (forEach n s f) (cond (has s n) (f n) []),
+      length-append (members n s) (cond (has s n) (n ∷ []) []),
+      one-more (has s n),
+      for-length-le n s f h,
+    )
+  where
+    one-more : (t : Bool) → length (cond t (f n) []) ≤ length (cond t (n ∷ []) [])
+    one-more true = h n
+    one-more false = omega arith

@@ -1,0 +1,130 @@
+-- The test of soundness passes exactly where every part of soundness holds. Assumes nothing.
+use mathlib.Core.Path.{_≡_, refl, sym, ap, _∙_}
+use mathlib.Core.Logic.{_⊎_, inl, inr, _↔_}
+use mathlib.Core.Bool.{Bool, true, false, not, _&&_, _||_}
+use mathlib.Core.List.{List}
+use Prim.Native.Nat.{ℕ, _≤_, _<_}
+use native.Mathlib.Omega.{arith}
+use native.Mathlib.Decide.{decLt}
+use lib.Dec.{eqb, leb, ltb}
+use borrow.Author.Tests.{leb-true, le-leb, eqb-true, eq-eqb, ltb-true, lt-ltb, le-ltb}
+use Rattle.sets.specs.Sets.{has, below}
+use Rattle.sets.proofs.Tests.{clash, and-parts}
+use Rattle.label.specs.declared.Label.{Label}
+use Rattle.protocol.specs.declared.Power.{Power}
+use Rattle.protocol.specs.declared.Power.the-variants.{Stopped, Running}
+use Rattle.protocol.specs.declared.State.{State}
+use Rattle.protocol.specs.Geometry.{mostDisks, mostBlocks, regions}
+use Rattle.protocol.specs.Loops.{allBelow}
+use Rattle.protocol.specs.Soundness.{blank, labelAt, InRange, FitSet, FitLabel, FitLabels, FitCurrent, FitPower, Sound, inRange, fitSet, fitLabel, isBlank, fitLabels, fitMember, fitPower, sound, TestAgrees}
+use Rattle.protocol.proofs.Loops.{all-at, all-of, or-either, implied, implies}
+
+in-range : (n b : ℕ) → (inRange n b ≡ true) ↔ InRange n b
+unfolding inRange
+in-range n b = (
+  λ e.
+      let (p, e1) = and-parts (leb 1 n) (leb n mostDisks && (leb 1 b && leb b mostBlocks)) e in
+      let (q, e2) = and-parts (leb n mostDisks) (leb 1 b && leb b mostBlocks) e1 in
+      let (r, t) = and-parts (leb 1 b) (leb b mostBlocks) e2 in
+      record { some-disk = leb-true _ _ p; disks = leb-true _ _ q; some-block = leb-true _ _ r; blocks = leb-true _ _ t },
+  λ h. rw (le-leb 1 n (h .some-disk), le-leb n mostDisks (h .disks), le-leb 1 b (h .some-block), le-leb b mostBlocks (h .blocks)),
+)
+
+fit-set : (n d s : ℕ) → (fitSet n d s ≡ true) ↔ FitSet n d s
+unfolding fitSet
+fit-set n d s = (
+  λ e. let (p, q) = and-parts (below s n) (eqb s 0 || has s d) e in record { known = p; own = own (or-either (eqb s 0) (has s d) q) },
+  λ h. rw (h .known) (back (h .own)),
+)
+  where
+    own : (eqb s 0 ≡ true) ⊎ (has s d ≡ true) → (s ≡ 0) ⊎ (has s d ≡ true)
+    own (inl e) = inl (eqb-true s 0 e)
+    own (inr e) = inr e
+
+    or-right : (a : Bool) → (a || true) ≡ true
+    or-right true = refl
+    or-right false = refl
+
+    back : (s ≡ 0) ⊎ (has s d ≡ true) → (eqb s 0 || has s d) ≡ true
+    back (inl e) = rw (eq-eqb s 0 e)
+    back (inr e) = rw e (or-right (eqb s 0))
+
+fit-label : (n b d : ℕ) (l : Label) → (fitLabel n b d l ≡ true) ↔ FitLabel n b d l
+unfolding fitLabel
+fit-label n b d l = (
+  λ e.
+      let (p, e1) = and-parts (fitSet n d (l .committed)) (fitSet n d (l .tentative) && below (l .dirty) (regions b)) e in
+      let (q, r) = and-parts (fitSet n d (l .tentative)) (below (l .dirty) (regions b)) e1 in
+      record { committed = fit-set n d _ .0 p; tentative = fit-set n d _ .0 q; dirty = r },
+  λ h. rw (fit-set n d (l .committed) .1 (h .committed), fit-set n d (l .tentative) .1 (h .tentative), h .dirty),
+)
+
+is-blank : (l : Label) → (isBlank l ≡ true) ↔ (l ≡ blank)
+unfolding isBlank
+is-blank l = (
+  λ e.
+      let (p, e1) = and-parts (eqb (l .committed) 0) (eqb (l .tentative) 0 && eqb (l .dirty) 0) e in
+      let (q, r) = and-parts (eqb (l .tentative) 0) (eqb (l .dirty) 0) e1 in
+      zeros (l .committed) (l .tentative) (l .dirty) (eqb-true _ _ p) (eqb-true _ _ q) (eqb-true _ _ r),
+  λ e. rw e,
+)
+  where
+    zeros : (c t m : ℕ) → c ≡ 0 → t ≡ 0 → m ≡ 0 → _≡_ {A = Label} (record { committed = c; tentative = t; dirty = m }) blank
+    zeros c t m p q r = cc
+
+fit-labels : (n b : ℕ) (labels : List Label) → (fitLabels n b labels ≡ true) ↔ FitLabels n b labels
+unfolding fitLabels
+fit-labels n b labels = (
+  λ e.
+      let (p, q) = and-parts (allBelow n (λ d. fitLabel n b d (labelAt labels d))) (allBelow mostDisks (λ d. ltb d n || isBlank (labelAt labels d))) e in
+      record {
+        each = λ d l. fit-label n b d _ .0 (all-at n _ p d l);
+        rest = λ d g l. is-blank _ .0 (past d g (or-either (ltb d n) _ (all-at mostDisks _ q d l)));
+      },
+  λ h. rw (all-of n (λ d. fitLabel n b d (labelAt labels d)) (λ d l. fit-label n b d _ .1 (h .each d l))) (all-of mostDisks _ (λ d l. unless d (h .rest d) l (decLt d n))),
+)
+  where
+    past : (d : ℕ) → n ≤ d → {t : Bool} → (ltb d n ≡ true) ⊎ (t ≡ true) → t ≡ true
+    past d g (inl e) = absurd (omega (arith, ltb-true d n e))
+    past d g (inr e) = e
+
+    unless : (d : ℕ) → (n ≤ d → d < mostDisks → labelAt labels d ≡ blank) → d < mostDisks → Dec (d < n) → (ltb d n || isBlank (labelAt labels d)) ≡ true
+    unless d h l (yes p) = rw (lt-ltb d n p)
+    unless d h l (no g) = rw (le-ltb d n (omega arith)) (is-blank _ .1 (h (omega arith) l))
+
+fit-member : (labels : List Label) (g d : ℕ) → (fitMember labels g d ≡ true) ↔ (((labelAt labels d) .committed ≡ g) × ((labelAt labels d) .tentative ≡ 0))
+unfolding fitMember
+fit-member labels g d = (
+  λ e. let (p, q) = and-parts (eqb ((labelAt labels d) .committed) g) (eqb ((labelAt labels d) .tentative) 0) e in (eqb-true _ _ p, eqb-true _ _ q),
+  λ h. rw (eq-eqb _ _ (h .0), eq-eqb _ _ (h .1)),
+)
+
+fit-power : (n : ℕ) (labels : List Label) (power : Power) → (fitPower n labels power ≡ true) ↔ FitPower n labels power
+unfolding fitPower
+fit-power n labels Stopped = (λ e. tt, λ h. refl)
+fit-power n labels (Running g) = (
+  λ e.
+      let (p, e1) = and-parts (below g n) (ltb 0 g && allBelow n (λ d. not (has g d) || fitMember labels g d)) e in
+      let (q, r) = and-parts (ltb 0 g) (allBelow n (λ d. not (has g d) || fitMember labels g d)) e1 in
+      record { known = p; filled = ltb-true _ _ q; members = λ d l m. fit-member labels g d .0 (implies (has g d) _ (all-at n _ r d l) m) },
+  λ h.
+      rw (h .known, lt-ltb 0 g (h .filled))
+      (all-of n _ (λ d l. implied (has g d) (fitMember labels g d) (λ m. fit-member labels g d .1 (h .members d l m)))),
+)
+
+pub test-agrees : TestAgrees
+unfolding sound
+test-agrees s = (
+  λ e.
+      let (p, e1) = and-parts (inRange (s .disks) (s .blocks)) (below (s .online) (s .disks) && (fitLabels (s .disks) (s .blocks) (s .labels) && fitPower (s .disks) (s .labels) (s .power))) e in
+      let (q, e2) = and-parts (below (s .online) (s .disks)) (fitLabels (s .disks) (s .blocks) (s .labels) && fitPower (s .disks) (s .labels) (s .power)) e1 in
+      let (r, t) = and-parts (fitLabels (s .disks) (s .blocks) (s .labels)) (fitPower (s .disks) (s .labels) (s .power)) e2 in
+      record { range = in-range _ _ .0 p; online = q; labels = fit-labels _ _ _ .0 r; power = fit-power _ _ _ .0 t },
+  λ h.
+      rw (
+        in-range (s .disks) (s .blocks) .1 (h .range),
+        h .online,
+        fit-labels (s .disks) (s .blocks) (s .labels) .1 (h .labels),
+        fit-power (s .disks) (s .labels) (s .power) .1 (h .power),
+      ),
+)
