@@ -1,19 +1,23 @@
 -- The labels of a list after a store on one of them, and after a whole move. Assumes nothing.
 use mathlib.Core.Path.{_≡_, refl, sym, ap, _∙_}
 use mathlib.Core.Logic.{_≢_, _⊎_, inl, inr}
-use mathlib.Core.Bool.{true}
+use mathlib.Core.Bool.{Bool, true, false, _||_}
 use mathlib.Core.List.{List, [], _∷_}
 use Prim.Native.Nat.{ℕ, zero, suc, _≤_, _<_}
 use native.Mathlib.Omega.{arith}
 use lib.ListN.{length, getD, set, length-set}
 use lib.Seq.{getD-set-same, getD-set-other}
-use Rattle.sets.specs.Sets.{has}
+use lib.Dec.{eqb}
+use borrow.Author.Tests.{eq-eqb}
+use Rattle.sets.specs.Sets.{has, union, difference, singleton}
+use Rattle.sets.proofs.Tests.{and-parts}
+use Rattle.sets.proofs.Operations.{has-union, has-difference, has-singleton}
 use Rattle.label.specs.declared.Label.{Label}
-use Rattle.protocol.specs.Soundness.{blank, labelAt}
-use Rattle.protocol.specs.Stores.{Disks, Store, write, copy, mark, clear, propose, commit, apply, applyAll}
-use Rattle.protocol.specs.Lists.{proposals, commits}
-use Rattle.protocol.proofs.Loops.{same-or-not}
-use Rattle.protocol.proofs.Runs.{made-members}
+use Rattle.protocol.specs.Soundness.{blank, labelAt, isDirty}
+use Rattle.protocol.specs.Stores.{Disks, Store, write, copy, mark, clear, propose, commit, withDirty, apply, applyAll}
+use Rattle.protocol.specs.Lists.{proposals, commits, move, moveToLive}
+use Rattle.protocol.proofs.Loops.{same-or-not, Each, nil, cons, each-append, each-unless, each-member}
+use Rattle.protocol.proofs.Runs.{keeps, made-members}
 
 -- what holds of the new label of d, and of each other label, holds of each label afterwards
 pub at-set : (Q : ℕ → Label → Type 0) (labels : List Label) (d : ℕ) (l : Label) → d < length labels
@@ -41,6 +45,49 @@ same-slots b (mark d r) w = length-set (w .labels) d _
 same-slots b (clear d r) w = length-set (w .labels) d _
 same-slots b (propose d s) w = length-set (w .labels) d _
 same-slots b (commit d s) w = length-set (w .labels) d _
+
+-- ---- dirty bits
+
+module _ (b d r : ℕ) (w : Disks) (room : d < length (w .labels)) where
+  -- a mark makes its bit stand, and clears none
+  pub mark-stands : isDirty (apply b (mark d r) w .labels) d r ≡ true
+  unfolding apply
+  mark-stands = rw (getD-set-same (w .labels) d (withDirty (labelAt (w .labels) d) (union ((labelAt (w .labels) d) .dirty) (singleton r))) blank room, has-union, has-singleton, eq-eqb r r refl) (or-true (isDirty (w .labels) d r))
+    where
+      or-true : (t : Bool) → (t || true) ≡ true
+      or-true true = refl
+      or-true false = refl
+
+  pub mark-keeps : (e q : ℕ) → isDirty (w .labels) e q ≡ true → isDirty (apply b (mark d r) w .labels) e q ≡ true
+  unfolding apply
+  mark-keeps e q = at-set (λ i l. isDirty (w .labels) i q ≡ true → has (l .dirty) q ≡ true) (w .labels) d _ room
+      (λ h. rw (has-union, h)) (λ i ne h. h) e
+
+  -- a clear makes no bit stand
+  pub clear-keeps : (e q : ℕ) → isDirty (apply b (clear d r) w .labels) e q ≡ true → isDirty (w .labels) e q ≡ true
+  unfolding apply
+  clear-keeps e q = at-set (λ i l. has (l .dirty) q ≡ true → isDirty (w .labels) i q ≡ true) (w .labels) d _ room
+      (λ h. and-parts (isDirty (w .labels) d q) _ (sym (has-difference ((labelAt (w .labels) d) .dirty) (singleton r) q) ∙ h) .0) (λ i ne h. h) e
+
+-- a move leaves them
+pub data SetStore : Store → Type 0 where
+  proposes : {d s : ℕ} → SetStore (propose d s)
+  commits-it : {d s : ℕ} → SetStore (commit d s)
+
+set-store-dirty : (b : ℕ) (x : Store) (w : Disks) → SetStore x → (e : ℕ) → (labelAt (apply b x w .labels) e) .dirty ≡ (labelAt (w .labels) e) .dirty
+unfolding apply
+set-store-dirty b x w (proposes {d}) e = field-set (λ l. l .dirty) (w .labels) d _ refl e
+set-store-dirty b x w (commits-it {d}) e = field-set (λ l. l .dirty) (w .labels) d _ refl e
+
+pub each-set-store : (n s : ℕ) → Each SetStore (move n s)
+unfolding move proposals commits
+each-set-store n s = each-append (each-member n s _ (λ d l m. cons proposes nil)) (each-member n s _ (λ d l m. cons commits-it nil))
+
+pub move-dirty : (b n g l : ℕ) (w : Disks) (e : ℕ) → (labelAt (applyAll b (moveToLive n g l) w .labels) e) .dirty ≡ (labelAt (w .labels) e) .dirty
+unfolding moveToLive
+move-dirty b n g l w e =
+    keeps b (λ v. (labelAt (v .labels) e) .dirty ≡ (labelAt (w .labels) e) .dirty) SetStore (λ x v p q. set-store-dirty b x v p e ∙ q)
+    (each-unless (eqb l g) (λ z. each-set-store n l)) w refl
 
 -- ---- whole moves
 

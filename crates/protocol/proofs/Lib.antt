@@ -3,3 +3,13 @@ pub mod Runs
 pub mod Areas
 pub mod Labels
 pub mod Soundness
+pub mod Naming
+pub mod Backing
+pub mod Moving
+pub mod Holding
+pub mod Moves
+pub mod Counting
+pub mod Writes
+pub mod Joins
+pub mod Cleans
+pub mod Restarts

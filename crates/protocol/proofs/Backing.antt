@@ -1,0 +1,146 @@
+-- The sets that labels back, and what they leave a restart to name. Every candidate of every stage is backed, so what limits the backed sets limits what
+-- a restart can name, whichever disks are in reach. Assumes nothing.
+use mathlib.Core.Path.{_≡_, refl, sym, ap, _∙_}
+use mathlib.Core.Logic.{_≢_, _⊎_, inl, inr}
+use mathlib.Core.Bool.{Bool, true, false}
+use mathlib.Core.List.{List}
+use Prim.Native.Nat.{ℕ, _^_, _≤_, _<_}
+use native.Mathlib.Omega.{arith}
+use lib.Dec.{eqb}
+use borrow.Author.Tests.{eqb-true, eq-eqb, lt-ltb}
+use Rattle.sets.specs.Sets.{has, all}
+use Rattle.sets.proofs.Tests.{Test, passes, fails, test, clash}
+use Rattle.sets.proofs.Membership.{has-empty}
+use Rattle.sets.proofs.Operations.{has-all}
+use Rattle.sets.proofs.Bounds.{member-below}
+use Rattle.sets.proofs.LowestMember.{lowest-has}
+use Rattle.label.specs.declared.Label.{Label}
+use Rattle.protocol.specs.Loops.{some}
+use Rattle.protocol.specs.Soundness.{labelAt, source}
+use Rattle.protocol.specs.Naming.{Stage, first, second, third, Found, none, one, several, Backs, Candidate, Exactly, no-set, one-set, several-sets, Names, by-first, by-second, by-third}
+use Rattle.protocol.proofs.Loops.{some-member, some-not}
+
+abbrev pub committedAt : List Label → ℕ → ℕ
+committedAt labels d = (labelAt labels d) .committed
+
+abbrev pub tentativeAt : List Label → ℕ → ℕ
+tentativeAt labels d = (labelAt labels d) .tentative
+
+-- every member has the set as its T or its C
+pub record Backed (labels : List Label) (x : ℕ) : Type 0 where
+  pub filled : 0 < x
+  pub each : (d : ℕ) → has x d ≡ true → Backs second (labelAt labels d) x
+
+-- the copy source of a set is a member of it
+pub source-has : (x : ℕ) → 0 < x → has x (source x) ≡ true
+unfolding source
+source-has = lowest-has
+
+-- ---- labels of a running cabinet, and of one that may be restarted
+
+-- every member of g has it, and no other set is backed
+pub record Agreed (n : ℕ) (labels : List Label) (g : ℕ) : Type 0 where
+  pub filled : 0 < g
+  pub known : g < 2 ^ n
+  pub members : (d : ℕ) → has g d ≡ true → (committedAt labels d ≡ g) × (tentativeAt labels d ≡ 0)
+  pub only : (x : ℕ) → Backed labels x → x ≡ g
+
+-- some set is backed, and all that are share a disk, the anchor, so each is the anchor's own C or T. Where one of them is both the anchor's C and some
+-- member's T, there is no other.
+pub record Recoverable (n : ℕ) (labels : List Label) : Type 0 where
+  pub anchor : ℕ
+  pub anchored : (x : ℕ) → Backed labels x → has x anchor ≡ true
+  pub decided : (m : ℕ) → has (committedAt labels anchor) m ≡ true → tentativeAt labels m ≡ committedAt labels anchor
+      → (x : ℕ) → Backed labels x → x ≡ committedAt labels anchor
+  pub known : (x : ℕ) → Backed labels x → x < 2 ^ n
+  pub some-set : (x : ℕ) × Backed labels x
+
+pub agreed-backed : {n : ℕ} {labels : List Label} {g : ℕ} → Agreed n labels g → Backed labels g
+agreed-backed h = record { filled = h .filled; each = λ d m. inr (h .members d m .0) }
+
+pub agreed-recoverable : {n : ℕ} {labels : List Label} {g : ℕ} → Agreed n labels g → Recoverable n labels
+agreed-recoverable {g = g} h =
+    let m = source-has g (h .filled) in
+    record {
+      anchor = source g;
+      anchored = λ x p. rw (h .only x p) m;
+      decided = λ d q e x p. h .only x p ∙ sym (h .members (source g) m .0);
+      known = λ x p. rw (h .only x p) (h .known);
+      some-set = (g, agreed-backed h);
+    }
+
+-- ---- what a restart finds
+
+candidate-backed : (stage : Stage) {online : ℕ} {labels : List Label} {x : ℕ} → Candidate stage online labels x → Backed labels x
+candidate-backed first c = record { filled = c .filled; each = λ d m. inl (c .each d m) }
+candidate-backed second c = record { filled = c .filled; each = c .each }
+candidate-backed third c = record { filled = c .filled; each = λ d m. inr (c .each d m) }
+
+module _ {n : ℕ} {labels : List Label} (rec : Recoverable n labels) where
+  -- a stage has no two candidates
+  unique : (stage : Stage) {online : ℕ} (x y : ℕ) → Candidate stage online labels x → Candidate stage online labels y → x ≡ y
+  unique stage x y p q = go stage p q (at-anchor stage p) (at-anchor stage q)
+    where
+      a : ℕ
+      a = rec .anchor
+
+      at-anchor : (stage : Stage) {online z : ℕ} → Candidate stage online labels z → Backs stage (labelAt labels a) z
+      at-anchor stage {z = z} c = c .each a (rec .anchored z (candidate-backed stage c))
+
+      -- one is the anchor's C, and proposed
+      wins : {online z v : ℕ} → Candidate second online labels z → Candidate second online labels v → committedAt labels a ≡ z → v ≡ z
+      wins {z = z} {v = v} c d e =
+          let (m, h, t) = c .proposed in
+          rec .decided m (rw e h) (t ∙ sym e) v (candidate-backed second d) ∙ e
+
+      go : (stage : Stage) {online : ℕ} → Candidate stage online labels x → Candidate stage online labels y
+          → Backs stage (labelAt labels a) x → Backs stage (labelAt labels a) y → x ≡ y
+      go first p q e f = sym e ∙ f
+      go second p q (inl e) (inl f) = sym e ∙ f
+      go second p q (inl e) (inr f) = wins q p f
+      go second p q (inr e) f = sym (wins p q e)
+      go third p q e f = sym e ∙ f
+
+  one-at-most : (stage : Stage) {online : ℕ} → Exactly (Candidate stage online labels) several → ⊥
+  one-at-most stage (several-sets {x} {y} p q ne) = ne (unique stage x y p q)
+
+  -- so a restart never finds several sets
+  pub never-several : {online : ℕ} → Names online labels several → ⊥
+  never-several (by-first f e) = one-at-most first e
+  never-several (by-second f e1 e2) = one-at-most second e2
+  never-several (by-third e1 e2 e3) = one-at-most third e3
+
+  -- a backed set is a candidate of some stage where all disks are in reach
+  no-candidate : Exactly (Candidate second (all n) labels) none → Exactly (Candidate third (all n) labels) none → (x : ℕ) → Backed labels x → ⊥
+  no-candidate (no-set e2) (no-set e3) x p = go (test (some n x (λ d. eqb (tentativeAt labels d) x)))
+    where
+      in-reach : (d : ℕ) → has x d ≡ true → d < n
+      in-reach d m = member-below x n d (rec .known x p) m
+
+      inside : (d : ℕ) → has x d ≡ true → has (all n) d ≡ true
+      inside d m = has-all n d ∙ lt-ltb d n (in-reach d m)
+
+      committed : some n x (λ d. eqb (tentativeAt labels d) x) ≡ false → (d : ℕ) → has x d ≡ true → Backs second (labelAt labels d) x → committedAt labels d ≡ x
+      committed f d m (inl e) = clash (eq-eqb _ _ e) (some-not n x _ f d (in-reach d m) m)
+      committed f d m (inr e) = e
+
+      go : Test (some n x (λ d. eqb (tentativeAt labels d) x)) → ⊥
+      go (passes e) =
+          let (d, l, m, t) = some-member n x _ e in
+          e2 x (record { filled = p .filled; inside = inside; each = p .each; proposed = (d, m, eqb-true _ _ t) })
+      go (fails e) =
+          e3 x (record { filled = p .filled; inside = inside; each = λ d m. committed e d m (p .each d m); proposed = (source x, source-has x (p .filled), tt) })
+
+  -- with all disks in reach it finds one
+  pub finds-one : (f : Found) → Names (all n) labels f → (x : ℕ) × (f ≡ one x)
+  finds-one none (by-first f e) = absurd (f refl)
+  finds-one none (by-second f e1 e2) = absurd (f refl)
+  finds-one none (by-third e1 e2 e3) = absurd (no-candidate e2 e3 (rec .some-set .0) (rec .some-set .1))
+  finds-one (one x) h = (x, refl)
+  finds-one several h = absurd (never-several h)
+
+-- and what it finds is backed
+pub found-backed : {online : ℕ} {labels : List Label} {x : ℕ} → Names online labels (one x) → Backed labels x
+found-backed (by-first f (one-set p u)) = candidate-backed first p
+found-backed (by-second f e1 (one-set p u)) = candidate-backed second p
+found-backed (by-third e1 e2 (one-set p u)) = candidate-backed third p

@@ -1,0 +1,71 @@
+-- When the stores made include a write's block store on the source of its set. Assumes nothing.
+use mathlib.Core.Path.{_≡_, refl, sym, ap, _∙_}
+use mathlib.Core.Bool.{Bool, true, false, cond, _&&_, _||_}
+use mathlib.Core.List.{List, [], _∷_, _++_}
+use Prim.Native.Nat.{ℕ, _^_, _≤_, _<_}
+use lib.Dec.{eqb}
+use lib.ListN.{length, take}
+use lib.Seq.{take-append-le}
+use borrow.Author.Tests.{eq-eqb}
+use Rattle.sets.specs.Sets.{has}
+use Rattle.sets.proofs.Bounds.{member-below}
+use Rattle.sets.proofs.LowestMember.{lowest-least}
+use Rattle.label.specs.declared.Label.{Label}
+use Rattle.protocol.specs.Geometry.{regionOf}
+use Rattle.protocol.specs.Loops.{forEach}
+use Rattle.protocol.specs.Soundness.{isDirty, source}
+use Rattle.protocol.specs.Stores.{Store, write, mark}
+use Rattle.protocol.specs.Lists.{marks, moveToLive, preparations, blockStores}
+use Rattle.protocol.specs.Book.{isBlockStore, include}
+use Rattle.protocol.proofs.Loops.{Each, nil, cons, each-append, each-take, each-map, each-unless, each-member, begins}
+use Rattle.protocol.proofs.Labels.{SetStore, proposes, commits-it, each-set-store}
+use Rattle.protocol.proofs.Backing.{source-has}
+
+pub include-append : (d k : ℕ) (xs ys : List Store) → include d k (xs ++ ys) ≡ (include d k xs || include d k ys)
+unfolding include
+include-append d k [] ys = refl
+include-append d k (x ∷ xs) ys = rw (include-append d k xs ys) (assoc (isBlockStore d k x) (include d k xs) (include d k ys))
+  where
+    assoc : (a b c : Bool) → (a || (b || c)) ≡ ((a || b) || c)
+    assoc true b c = refl
+    assoc false b c = refl
+
+-- ---- nothing before the first block store is one
+
+abbrev NoBlock : ℕ → ℕ → Store → Type 0
+NoBlock d k x = isBlockStore d k x ≡ false
+
+include-none : (d k : ℕ) {xs : List Store} → Each (NoBlock d k) xs → include d k xs ≡ false
+unfolding include
+include-none d k nil = refl
+include-none d k (cons e es) = rw (e, include-none d k es)
+
+module _ (n : ℕ) (labels : List Label) (g l k d j : ℕ) where
+  prepares : Each (NoBlock d j) (preparations n labels g l k)
+  unfolding preparations moveToLive marks
+  prepares = each-append
+      (each-unless (eqb l g) (λ z. each-map quiet (each-set-store n l)))
+      (each-member n l _ (λ e h m. each-unless (isDirty labels e (regionOf k)) (λ z. cons refl nil)))
+    where
+      quiet : (x : Store) → SetStore x → NoBlock d j x
+      quiet x proposes = refl
+      quiet x commits-it = refl
+
+  pub early : (p : ℕ) → include d j (take p (preparations n labels g l k)) ≡ false
+  early p = include-none d j (each-take p prepares)
+
+  pub prepared : include d j (preparations n labels g l k) ≡ false
+  prepared = include-none d j prepares
+
+-- ---- the first block store is the source's
+
+pub block-stores-begin : (n l k : ℕ) (bytes : List ℕ) → 0 < l → l < 2 ^ n → (later : List Store) × (blockStores n l k bytes ≡ write (source l) k bytes ∷ later)
+unfolding blockStores forEach source
+block-stores-begin n l k bytes filled known =
+    let m = source-has l filled in
+    let (later, e) = begins (λ d. cond (has l d) (write d k bytes ∷ []) []) (source l) (λ i h. rw (lowest-least l i h)) n (member-below l n (source l) known m) in
+    (later, e ∙ rw m)
+
+pub source-store : (d k : ℕ) (bytes : List ℕ) (later : List Store) → include d k (write d k bytes ∷ later) ≡ true
+unfolding include
+source-store d k bytes later = rw (eq-eqb d d refl, eq-eqb k k refl)

@@ -1,0 +1,117 @@
+-- A join, cut anywhere, leaves disks that a restart can take up, and whole, disks that run with one more. Assumes nothing.
+use mathlib.Core.Path.{_≡_, refl, sym, ap, _∙_}
+use mathlib.Core.Logic.{_≢_, _⊎_, inl, inr}
+use mathlib.Core.Bool.{Bool, true, false, _||_}
+use mathlib.Core.List.{List, [], _∷_, _++_}
+use Prim.Native.Nat.{ℕ, _^_, _≤_, _<_}
+use native.Mathlib.Omega.{arith}
+use lib.Dec.{eqb}
+use borrow.Author.Tests.{eqb-true}
+use Rattle.sets.specs.Sets.{has, union, singleton}
+use Rattle.sets.proofs.Operations.{has-union, has-singleton}
+use Rattle.sets.proofs.Bounds.{member-below, below-pow, below-members}
+use Rattle.sets.proofs.LowestMember.{non-empty}
+use Rattle.protocol.specs.Loops.{ascending, forEach}
+use Rattle.protocol.specs.Soundness.{isDirty, live, source}
+use Rattle.protocol.specs.declared.State.{State}
+use Rattle.protocol.specs.Stores.{Disks, Store, copy, clear, apply, applyAll}
+use Rattle.protocol.specs.Lists.{move, moveToLive, fill, cleanList}
+use Rattle.protocol.specs.Book.{Contents}
+use Rattle.protocol.proofs.Loops.{or-either, Each, nil, cons, each-ascending, each-if, each-member}
+use Rattle.protocol.proofs.Runs.{apply-append, Along, along-append, keeps, keeps-along, made-all}
+use Rattle.protocol.proofs.Areas.{block-length}
+use Rattle.protocol.proofs.Backing.{source-has}
+use Rattle.protocol.proofs.Holding.{Right, Holds, Steady, Restartable, steady-stops, steady-stores, steady-dirties, now-right, stays-right}
+use Rattle.protocol.proofs.Moves.{live-known, live-cut, live-done, move-cut, move-done}
+
+module _ (n b : ℕ) (c : Contents) where
+  -- ---- blocks copied from the source to disk d
+
+  module _ (l d : ℕ) (hd : d < n) where
+    data Copying : Store → Type 0 where
+      copying : {k : ℕ} → k < b → Copying (copy (source l) d k)
+
+    source-right : (w : Disks) → Steady n b c l w → (k : ℕ) → k < b → Right n b c w (source l) k
+    source-right w h k hk = h .holds (source l) (source-has l (h .agreed .filled)) k hk
+
+    source-below : (w : Disks) → Steady n b c l w → source l < n
+    source-below w h = member-below l n (source l) (h .agreed .known) (source-has l (h .agreed .filled))
+
+    copy-step : (x : Store) (w : Disks) → Copying x → Steady n b c l w → Steady n b c l (apply b x w)
+    unfolding apply
+    copy-step x w (copying {k} hk) h =
+        steady-stores n b c w (h .size) d k hd hk _ (block-length n b (w .area) (h .size) (source l) k (source-below w h) hk) (source-right w h k hk) l h
+
+    copied : (k : ℕ) → k < b → (w : Disks) → Steady n b c l w → Right n b c (apply b (copy (source l) d k) w) d k
+    unfolding apply
+    copied k hk w h = now-right n b c w (h .size) d k hd hk _ (block-length n b (w .area) (h .size) (source l) k (source-below w h) hk) (source-right w h k hk)
+
+    still-copied : (k j : ℕ) → k < b → j < b → (w : Disks) → Steady n b c l w → Right n b c w d j → Right n b c (apply b (copy (source l) d k) w) d j
+    unfolding apply
+    still-copied k j hk hj w h q =
+        stays-right n b c w (h .size) d k hd hk _ (block-length n b (w .area) (h .size) (source l) k (source-below w h) hk) (source-right w h k hk) d j hd hj q
+
+    each-copying : Each Copying (fill b l d)
+    unfolding fill
+    each-copying = each-ascending b _ (λ k hk. cons (copying hk) nil)
+
+    fill-cut : (w : Disks) → Steady n b c l w → Along b (Restartable n b c) (fill b l d) w
+    fill-cut w h k = steady-stops n b c (keeps-along b (Steady n b c l) Copying copy-step each-copying w h k)
+
+    fill-done : (w : Disks) → Steady n b c l w → Steady n b c l (applyAll b (fill b l d) w) × Holds n b c (applyAll b (fill b l d) w) d
+    unfolding fill applyAll
+    fill-done w h = made-all b (λ k. copy (source l) d k ∷ []) (Steady n b c l) (λ k v. Right n b c v d k) b
+        (λ k hk v s. (copy-step _ v (copying hk) s, copied k hk v s))
+        (λ k j hk r v s q. still-copied k j hk (omega arith) v s q)
+        w h
+
+  -- ---- the whole join
+
+  module _ (g l : ℕ) (w : Disks) (h : Steady n b c g w) (filled : 0 < l) (inside : (e : ℕ) → has l e ≡ true → has g e ≡ true) (d : ℕ) (hd : d < n) where
+    abbrev moved : Disks
+    moved = applyAll b (moveToLive n g l) w
+
+    abbrev joined : ℕ
+    joined = union l (singleton d)
+
+    one-of : (e : ℕ) → has joined e ≡ true → (has l e ≡ true) ⊎ (e ≡ d)
+    one-of e m = go (or-either (has l e) (eqb e d) (sym (ap (λ t. has l e || t) (has-singleton d e)) ∙ sym (has-union l (singleton d) e) ∙ m))
+      where
+        go : (has l e ≡ true) ⊎ (eqb e d ≡ true) → (has l e ≡ true) ⊎ (e ≡ d)
+        go (inl q) = inl q
+        go (inr q) = inr (eqb-true e d q)
+
+    in-joined : (e : ℕ) → has l e ≡ true → has joined e ≡ true
+    in-joined e m = has-union l (singleton d) e ∙ rw m
+
+    steady : Steady n b c l moved
+    steady = live-done n b c g l w h filled inside
+
+    joined-known : joined < 2 ^ n
+    joined-known = below-pow joined n .0 (below-members joined n .1 (λ e m. go e (one-of e m)))
+      where
+        go : (e : ℕ) → (has l e ≡ true) ⊎ (e ≡ d) → e < n
+        go e (inl m) = member-below l n e (steady .agreed .known) m
+        go e (inr q) = rw q hd
+
+    filled-up : Steady n b c l (applyAll b (fill b l d) moved) × Holds n b c (applyAll b (fill b l d) moved) d
+    filled-up = fill-done l d hd moved steady
+
+    all-hold : (e : ℕ) → has joined e ≡ true → Holds n b c (applyAll b (fill b l d) moved) e
+    all-hold e m = go (one-of e m)
+      where
+        go : (has l e ≡ true) ⊎ (e ≡ d) → Holds n b c (applyAll b (fill b l d) moved) e
+        go (inl q) = filled-up .0 .holds e q
+        go (inr q) = rw q (filled-up .1)
+
+    source-in : has l (source l) ≡ true
+    source-in = source-has l filled
+
+    pub join-cut : Along b (Restartable n b c) (moveToLive n g l ++ (fill b l d ++ move n joined)) w
+    join-cut = along-append b (Restartable n b c) (moveToLive n g l) (fill b l d ++ move n joined) w (live-cut n b c g l w h filled inside)
+        (along-append b (Restartable n b c) (fill b l d) (move n joined) moved (fill-cut l d hd moved steady)
+        (move-cut n b c l joined _ (filled-up .0) (source l) source-in (in-joined _ source-in) (non-empty joined _ (in-joined _ source-in)) joined-known all-hold))
+
+    pub join-done : Steady n b c joined (applyAll b (moveToLive n g l ++ (fill b l d ++ move n joined)) w)
+    join-done = rw (apply-append, apply-append)
+        (move-done n b c l joined _ (filled-up .0) (source l) source-in (in-joined _ source-in) (non-empty joined _ (in-joined _ source-in)) joined-known all-hold)

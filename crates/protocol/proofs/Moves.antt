@@ -1,0 +1,168 @@
+-- A move, cut anywhere, leaves disks that a restart can take up, and whole, disks that run with the new set. Assumes nothing.
+use mathlib.Core.Path.{_≡_, refl, sym, ap, _∙_}
+use mathlib.Core.Logic.{_≢_, _⊎_, inl, inr}
+use mathlib.Core.Bool.{Bool, true, false, cond}
+use mathlib.Core.List.{List, [], _∷_, _++_}
+use Prim.Native.Nat.{ℕ, _^_, _≤_, _<_}
+use native.Mathlib.Omega.{arith}
+use lib.Dec.{eqb}
+use lib.ListN.{length, set, length-set}
+use borrow.Author.Tests.{eqb-true}
+use Rattle.sets.specs.Sets.{has}
+use Rattle.sets.proofs.Tests.{Test, passes, fails, test}
+use Rattle.sets.proofs.Bounds.{member-below, below-pow, below-members}
+use Rattle.label.specs.declared.Label.{Label}
+use Rattle.protocol.specs.Geometry.{regionOf, areaSize}
+use Rattle.protocol.specs.Soundness.{labelAt, isDirty, source}
+use Rattle.protocol.specs.Stores.{Disks, Store, propose, commit, withCommitted, apply, applyAll}
+use Rattle.protocol.specs.Lists.{proposals, commits, move, moveToLive}
+use Rattle.protocol.specs.Book.{Contents}
+use Rattle.protocol.proofs.Loops.{Each, nil, cons, each-member}
+use Rattle.protocol.proofs.Runs.{apply-append, Along, along-append, along-nil, keeps, keeps-along}
+use Rattle.protocol.proofs.Labels.{field-set, proposed, committed}
+use Rattle.protocol.proofs.Backing.{Backed, Agreed, Recoverable, source-has}
+use Rattle.protocol.proofs.Moving.{Proposing, begin-proposing, propose-keeps, proposing-recoverable, commit-backed, commit-shrinks, commit-keeps, committed-agree}
+use Rattle.protocol.proofs.Holding.{Right, Holds, Steady, Restartable, steady-stops}
+
+-- the stores of a move's halves
+pub data Proposal (n s : ℕ) : Store → Type 0 where
+  proposal : {d : ℕ} → d < n → Proposal n s (propose d s)
+
+pub data Commitment (n s : ℕ) : Store → Type 0 where
+  commitment : {d : ℕ} → d < n → has s d ≡ true → Commitment n s (commit d s)
+
+each-proposal : (n s : ℕ) → Each (Proposal n s) (proposals n s)
+unfolding proposals
+each-proposal n s = each-member n s _ (λ d l m. cons (proposal l) nil)
+
+each-commitment : (n s : ℕ) → Each (Commitment n s) (commits n s)
+unfolding commits
+each-commitment n s = each-member n s _ (λ d l m. cons (commitment l m) nil)
+
+module _ (n b : ℕ) (c : Contents) where
+  -- ---- commits: the end of a move, and of a restart
+
+  -- s is what a restart may name, and all its members hold the book
+  pub record Committing (s : ℕ) (w : Disks) : Type 0 where
+    pub restartable : Restartable n b c w
+    pub backed : Backed (w .labels) s
+    pub holds : (d : ℕ) → has s d ≡ true → Holds n b c w d
+
+  commit-step : (s : ℕ) (x : Store) (w : Disks) → Commitment n s x → Committing s w → Committing s (apply b x w)
+  unfolding apply
+  commit-step s x w (commitment {d} l m) h =
+      let r = h .restartable in
+      let room : d < length (w .labels) = omega (arith, r .room) in
+      record {
+        restartable = record {
+          room = rw length-set (r .room);
+          size = r .size;
+          recoverable = commit-keeps n s (w .labels) d room m (h .backed) (r .recoverable);
+          sources = λ y p. r .sources y (commit-shrinks n s (w .labels) d room m (h .backed) y p);
+          members = λ y p e q k j. rw (field-set (λ z. z .dirty) (w .labels) d (withCommitted (labelAt (w .labels) d) s) refl e)
+              (r .members y (commit-shrinks n s (w .labels) d room m (h .backed) y p) e q k j);
+        };
+        backed = commit-backed n s (w .labels) d room m (h .backed);
+        holds = h .holds;
+      }
+
+  module _ (s : ℕ) (w : Disks) (h : Committing s w) where
+    pub commits-cut : Along b (Restartable n b c) (commits n s) w
+    commits-cut k = keeps-along b (Committing s) (Commitment n s) (commit-step s) (each-commitment n s) w h k .restartable
+
+    pub commits-done : Steady n b c s (applyAll b (commits n s) w)
+    commits-done =
+        let e = keeps b (Committing s) (Commitment n s) (commit-step s) (each-commitment n s) w h in
+        let r = e .restartable in
+        record {
+          room = r .room;
+          size = r .size;
+          agreed = committed-agree n s _ (r .recoverable) (e .backed)
+              (λ d m. committed b n s w (h .restartable .room) d (member-below s n d (h .restartable .recoverable .known s (h .backed)) m) m);
+          holds = e .holds;
+        }
+
+  -- ---- the whole move, from g to a set s that shares a disk with it
+
+  record Proposed (g s : ℕ) (w : Disks) : Type 0 where
+    room : n ≤ length (w .labels)
+    size : length (w .area) ≡ areaSize n b
+    proposing : Proposing g s (w .labels)
+    old : (d : ℕ) → has g d ≡ true → Holds n b c w d
+    new : (d : ℕ) → has s d ≡ true → Holds n b c w d
+
+  propose-step : (g s : ℕ) (x : Store) (w : Disks) → Proposal n s x → Proposed g s w → Proposed g s (apply b x w)
+  unfolding apply
+  propose-step g s x w (proposal {d} l) h = record {
+    room = rw length-set (h .room);
+    size = h .size;
+    proposing = propose-keeps g s (w .labels) d (omega (arith, h .room)) (h .proposing);
+    old = h .old;
+    new = h .new;
+  }
+
+  module _ (g s : ℕ) (w : Disks) (h : Steady n b c g w) (a : ℕ) (in-g : has g a ≡ true) (in-s : has s a ≡ true) (filled : 0 < s) (known : s < 2 ^ n)
+      (new-holds : (d : ℕ) → has s d ≡ true → Holds n b c w d) where
+    begin : Proposed g s w
+    begin = record { room = h .room; size = h .size; proposing = begin-proposing s (h .agreed); old = h .holds; new = new-holds }
+
+    open-to-restart : (v : Disks) → Proposed g s v → Restartable n b c v
+    open-to-restart v p = record {
+      room = p .room;
+      size = p .size;
+      recoverable = proposing-recoverable n g s (v .labels) a in-g in-s (h .agreed .filled) (h .agreed .known) known (p .proposing);
+      sources = λ x q. holds x (source x) (p .proposing .only x q) (source-in x q);
+      members = λ x q d m k l. inr (holds x d (p .proposing .only x q) m k l);
+    }
+      where
+        holds : (x d : ℕ) → (x ≡ g) ⊎ (x ≡ s) → has x d ≡ true → Holds n b c v d
+        holds x d (inl e) m = p .old d (rw e at m)
+        holds x d (inr e) m = p .new d (rw e at m)
+
+        source-in : (x : ℕ) → Backed (v .labels) x → has x (source x) ≡ true
+        source-in x q = source-has x (q .filled)
+
+    proposed-all : Proposed g s (applyAll b (proposals n s) w)
+    proposed-all = keeps b (Proposed g s) (Proposal n s) (propose-step g s) (each-proposal n s) w begin
+
+    half-way : Committing s (applyAll b (proposals n s) w)
+    half-way = record {
+      restartable = open-to-restart _ proposed-all;
+      backed = record { filled = filled; each = λ d m. inl (proposed b n s w (h .room) d (member-below s n d known m) m) };
+      holds = proposed-all .new;
+    }
+
+    pub move-cut : Along b (Restartable n b c) (move n s) w
+    unfolding move
+    move-cut = along-append b (Restartable n b c) (proposals n s) (commits n s) w
+        (λ k. open-to-restart _ (keeps-along b (Proposed g s) (Proposal n s) (propose-step g s) (each-proposal n s) w begin k))
+        (commits-cut s _ half-way)
+
+    pub move-done : Steady n b c s (applyAll b (move n s) w)
+    unfolding move
+    move-done = rw apply-append (commits-done s _ half-way)
+
+  -- ---- "if L differs from G, move to L"
+
+  module _ (g l : ℕ) (w : Disks) (h : Steady n b c g w) (filled : 0 < l) (inside : (d : ℕ) → has l d ≡ true → has g d ≡ true) where
+    in-l : has l (source l) ≡ true
+    in-l = source-has l filled
+
+    pub live-known : l < 2 ^ n
+    live-known = below-pow l n .0 (below-members l n .1 (λ d m. member-below g n d (h .agreed .known) (inside d m)))
+
+    pub live-cut : Along b (Restartable n b c) (moveToLive n g l) w
+    unfolding moveToLive
+    live-cut = go (eqb l g)
+      where
+        go : (t : Bool) → Along b (Restartable n b c) (cond t [] (move n l)) w
+        go true = along-nil b (Restartable n b c) w (steady-stops n b c h)
+        go false = move-cut g l w h (source l) (inside (source l) in-l) in-l filled live-known (λ d m. h .holds d (inside d m))
+
+    pub live-done : Steady n b c l (applyAll b (moveToLive n g l) w)
+    unfolding moveToLive applyAll
+    live-done = go (eqb l g) refl
+      where
+        go : (t : Bool) → eqb l g ≡ t → Steady n b c l (applyAll b (cond t [] (move n l)) w)
+        go true e = rw (eqb-true l g e) h
+        go false e = move-done g l w h (source l) (inside (source l) in-l) in-l filled live-known (λ d m. h .holds d (inside d m))

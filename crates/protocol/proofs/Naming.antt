@@ -1,0 +1,255 @@
+-- The function that names a restart's set gives the answer of the paper's sentences, and so does the finder. Assumes nothing.
+use mathlib.Core.Path.{_≡_, refl, sym, ap, _∙_}
+use mathlib.Core.Logic.{_≢_, _⊎_, inl, inr}
+use mathlib.Core.Bool.{Bool, true, false, cond, _&&_, _||_}
+use mathlib.Core.List.{List, [], _∷_, _++_, append-nil}
+use Prim.Native.Nat.{ℕ, zero, suc, _^_, _<_}
+use native.Mathlib.Omega.{arith}
+use lib.Dec.{eqb, ltb}
+use borrow.Author.Tests.{ltb-true, lt-ltb, eqb-true, eq-eqb, ne-eqb}
+use Rattle.sets.specs.Sets.{has, subset}
+use Rattle.sets.proofs.Tests.{Test, passes, fails, test, clash, and-parts}
+use Rattle.sets.proofs.Operations.{subset-members}
+use Rattle.sets.proofs.Bounds.{member-below, below-pow, below-members}
+use Rattle.label.specs.declared.Label.{Label}
+use Rattle.protocol.specs.Loops.{ascending, every, some}
+use Rattle.protocol.specs.Soundness.{labelAt}
+use Rattle.protocol.specs.Naming.{Stage, first, second, third, Found, none, one, several, Backs, Proposes, Candidate, Exactly, no-set, one-set, several-sets, Names, by-first, by-second, by-third, backs, proposes, candidate, candidates, decide, named, NamedAsDefined}
+use Rattle.protocol.specs.Finder.{tried, another, among, orLater, find, FindsNamed}
+use Rattle.protocol.proofs.Loops.{same-or-not, or-either, every-at, every-of, some-member, some-is}
+
+-- ---- the test of a candidate
+
+backs-if : (stage : Stage) (l : Label) (x : ℕ) → backs stage l x ≡ true → Backs stage l x
+unfolding backs
+backs-if first l x e = eqb-true _ _ e
+backs-if second l x e = go (or-either (eqb (l .tentative) x) (eqb (l .committed) x) e)
+  where
+    go : (eqb (l .tentative) x ≡ true) ⊎ (eqb (l .committed) x ≡ true) → Backs second l x
+    go (inl q) = inl (eqb-true _ _ q)
+    go (inr q) = inr (eqb-true _ _ q)
+backs-if third l x e = eqb-true _ _ e
+
+if-backs : (stage : Stage) (l : Label) (x : ℕ) → Backs stage l x → backs stage l x ≡ true
+unfolding backs
+if-backs first l x e = eq-eqb _ _ e
+if-backs second l x (inl e) = rw (eq-eqb _ _ e)
+if-backs second l x (inr e) = rw (eq-eqb _ _ e) (or-true (eqb (l .tentative) x))
+  where
+    or-true : (t : Bool) → (t || true) ≡ true
+    or-true true = refl
+    or-true false = refl
+if-backs third l x e = eq-eqb _ _ e
+
+proposes-if : (stage : Stage) (l : Label) (x : ℕ) → proposes stage l x ≡ true → Proposes stage l x
+unfolding proposes
+proposes-if first l x e = tt
+proposes-if second l x e = eqb-true _ _ e
+proposes-if third l x e = tt
+
+if-proposes : (stage : Stage) (l : Label) (x : ℕ) → Proposes stage l x → proposes stage l x ≡ true
+unfolding proposes
+if-proposes first l x e = refl
+if-proposes second l x e = eq-eqb _ _ e
+if-proposes third l x e = refl
+
+module _ (stage : Stage) (n online : ℕ) (labels : List Label) (known : online < 2 ^ n) where
+  abbrev IsCandidate : ℕ → Type 0
+  IsCandidate x = candidate stage n online labels x ≡ true
+
+  candidate-if : (x : ℕ) → IsCandidate x → Candidate stage online labels x
+  unfolding candidate
+  candidate-if x e =
+      let (p, e1) = and-parts (ltb 0 x) _ e in
+      let (q, e2) = and-parts (subset x online) _ e1 in
+      let (r, t) = and-parts (every n x (λ d. backs stage (labelAt labels d) x)) (some n x (λ d. proposes stage (labelAt labels d) x)) e2 in
+      let inside = subset-members x online .0 q in
+      let (d, l, m, z) = some-member n x _ t in
+      record {
+        filled = ltb-true _ _ p;
+        inside = inside;
+        each = λ d m. backs-if stage _ x (every-at n x _ r d (member-below online n d known (inside d m)) m);
+        proposed = (d, m, proposes-if stage _ x z);
+      }
+
+  candidate-below : (x : ℕ) → Candidate stage online labels x → (d : ℕ) → has x d ≡ true → d < n
+  candidate-below x c d m = member-below online n d known (c .inside d m)
+
+  if-candidate : (x : ℕ) → Candidate stage online labels x → IsCandidate x
+  unfolding candidate
+  if-candidate x c =
+      let (d, m, z) = c .proposed in
+      rw (
+        lt-ltb 0 x (c .filled),
+        subset-members x online .1 (c .inside),
+        every-of n x (λ d. backs stage (labelAt labels d) x) (λ d l m. if-backs stage _ x (c .each d m)),
+        some-is n x (λ d. proposes stage (labelAt labels d) x) d (candidate-below x c d m) m (if-proposes stage _ x z),
+      )
+
+-- ---- how many there are
+
+exactly-map : {P Q : ℕ → Type 0} {f : Found} → ((x : ℕ) → P x → Q x) → ((x : ℕ) → Q x → P x) → Exactly P f → Exactly Q f
+exactly-map to from (no-set h) = no-set (λ x q. h x (from x q))
+exactly-map to from (one-set {x} p u) = one-set (to x p) (λ y q. u y (from y q))
+exactly-map to from (several-sets {x} {y} p q ne) = several-sets (to x p) (to y q) ne
+
+exactly-same : {P : ℕ → Type 0} {f g : Found} → Exactly P f → Exactly P g → f ≡ g
+exactly-same (no-set h) (no-set k) = refl
+exactly-same (no-set h) (one-set p u) = absurd (h _ p)
+exactly-same (no-set h) (several-sets p q ne) = absurd (h _ p)
+exactly-same (one-set p u) (no-set k) = absurd (k _ p)
+exactly-same (one-set p u) (one-set q v) = ap one (v _ p)
+exactly-same (one-set p u) (several-sets q r ne) = absurd (ne (u _ q ∙ sym (u _ r)))
+exactly-same (several-sets p q ne) (no-set k) = absurd (k _ p)
+exactly-same (several-sets p q ne) (one-set r v) = absurd (ne (v _ p ∙ sym (v _ q)))
+exactly-same (several-sets p q ne) (several-sets r t me) = refl
+
+-- what a list of different sets amounts to
+abbrev count : List ℕ → Found
+count [] = none
+count (x ∷ []) = one x
+count (x ∷ y ∷ more) = several
+
+-- the sets below a bound that pass, listed
+module _ (p : ℕ → Bool) where
+  abbrev Below : ℕ → ℕ → Type 0
+  Below i x = (x < i) × (p x ≡ true)
+
+  up : (i x : ℕ) → Below i x → Below (suc i) x
+  up i x (l, e) = (omega arith, e)
+
+  down : (i x : ℕ) → Below (suc i) x → (x ≡ i) ⊎ Below i x
+  down i x (l, e) = go (same-or-not x i)
+    where
+      go : (x ≡ i) ⊎ (x ≢ i) → (x ≡ i) ⊎ Below i x
+      go (inl q) = inl q
+      go (inr q) = inr (omega arith, e)
+
+  listed : (i : ℕ) → Exactly (Below i) (count (ascending i (λ x. cond (p x) (x ∷ []) [])))
+  unfolding ascending
+  listed zero = no-set (λ x (l, e). omega arith)
+  listed (suc i) = go (ascending i (λ x. cond (p x) (x ∷ []) [])) (listed i) (test (p i))
+    where
+      more : p i ≡ true → (xs : List ℕ) → Exactly (Below i) (count xs) → Exactly (Below (suc i)) (count (xs ++ i ∷ []))
+      more e [] (no-set h) = one-set {x = i} (omega arith, e) (λ y b. elim (down i y b) [ inl q ↦ q | inr c ↦ absurd (h y c) ])
+      more e (y ∷ []) (one-set b u) = several-sets {x = y} {y = i} (up i y b) (omega arith, e) (λ q. omega (arith, b .0))
+      more e (u ∷ v ∷ xs) (several-sets {x} {y} b d ne) = several-sets (up i x b) (up i y d) ne
+
+      go : (xs : List ℕ) → Exactly (Below i) (count xs) → Test (p i) → Exactly (Below (suc i)) (count (xs ++ cond (p i) (i ∷ []) []))
+      go xs h (passes e) = rw e (more e xs h)
+      go xs h (fails e) = rw (e, append-nil) (exactly-map (up i) (λ x b. elim (down i x b) [ inl q ↦ clash (b .1) (rw q e) | inr c ↦ c ]) h)
+
+module _ (n online : ℕ) (labels : List Label) (known : online < 2 ^ n) where
+  -- a candidate is one of the sets of disks below n
+  in-list : (stage : Stage) (x : ℕ) → Candidate stage online labels x → x < 2 ^ n
+  in-list stage x c = below-pow x n .0 (below-members x n .1 (candidate-below stage n online labels known x c))
+
+  stage-right : (stage : Stage) → Exactly (Candidate stage online labels) (count (candidates stage n online labels))
+  unfolding candidates
+  stage-right stage =
+      exactly-map (λ x b. candidate-if stage n online labels known x (b .1))
+      (λ x c. (in-list stage x c, if-candidate stage n online labels known x c)) (listed (candidate stage n online labels) (2 ^ n))
+
+  one-not-none : (x : ℕ) → one x ≢ none
+  one-not-none x e = absurd (let z : _≡_ {A = ℕ} 0 1 = cc in omega arith)
+
+  several-not-none : several ≢ none
+  several-not-none e = absurd (let z : _≡_ {A = ℕ} 0 1 = cc in omega arith)
+
+  named-answers : Names online labels (named n online labels)
+  unfolding named decide
+  named-answers = go (candidates first n online labels) (candidates second n online labels) (candidates third n online labels) (stage-right first) (stage-right second) (stage-right third)
+    where
+      go : (xs ys zs : List ℕ) → Exactly (Candidate first online labels) (count xs) → Exactly (Candidate second online labels) (count ys)
+          → Exactly (Candidate third online labels) (count zs) → Names online labels (decide (xs ∷ ys ∷ zs ∷ []))
+      go (x ∷ []) ys zs p q r = by-first (one-not-none x) p
+      go (x ∷ y ∷ xs) ys zs p q r = by-first several-not-none p
+      go [] (x ∷ []) zs p q r = by-second (one-not-none x) p q
+      go [] (x ∷ y ∷ ys) zs p q r = by-second several-not-none p q
+      go [] [] [] p q r = by-third p q r
+      go [] [] (x ∷ []) p q r = by-third p q r
+      go [] [] (x ∷ y ∷ zs) p q r = by-third p q r
+
+names-same : {online : ℕ} {labels : List Label} {f g : Found} → Names online labels f → Names online labels g → f ≡ g
+names-same (by-first a p) (by-first b q) = exactly-same p q
+names-same (by-first a p) (by-second b q r) = absurd (a (exactly-same p q))
+names-same (by-first a p) (by-third q r t) = absurd (a (exactly-same p q))
+names-same (by-second a p q) (by-first b r) = absurd (b (exactly-same r p))
+names-same (by-second a p q) (by-second b r t) = exactly-same q t
+names-same (by-second a p q) (by-third r t u) = absurd (a (exactly-same q t))
+names-same (by-third p q r) (by-first b t) = absurd (b (exactly-same t p))
+names-same (by-third p q r) (by-second b t u) = absurd (b (exactly-same u q))
+names-same (by-third p q r) (by-third t u v) = exactly-same r v
+
+pub named-as-defined : (n online : ℕ) (labels : List Label) → online < 2 ^ n → NamedAsDefined n online labels
+named-as-defined n online labels known =
+    let right = named-answers n online labels known in
+    record { answers = right; only = λ f h. names-same h right }
+
+-- ---- the finder
+
+module _ (n online : ℕ) (labels : List Label) (known : online < 2 ^ n) (stage : Stage) where
+  abbrev triedAt : ℕ → ℕ
+  triedAt i = tried stage (labelAt labels i)
+
+  abbrev Tried : ℕ → ℕ → Type 0
+  Tried i x = (j : ℕ) × (j < i) × (triedAt j ≡ x) × (candidate stage n online labels x ≡ true)
+
+  more-tried : (i x : ℕ) → Tried i x → Tried (suc i) x
+  more-tried i x (j, l, e, c) = (j, omega arith, e, c)
+
+  last-tried : (i x : ℕ) → Tried (suc i) x → (x ≡ triedAt i) ⊎ Tried i x
+  last-tried i x (j, l, e, c) = go (same-or-not j i)
+    where
+      go : (j ≡ i) ⊎ (j ≢ i) → (x ≡ triedAt i) ⊎ Tried i x
+      go (inl q) = inl (sym e ∙ ap triedAt q)
+      go (inr q) = inr (j, omega arith, e, c)
+
+  one-more : (i : ℕ) {f : Found} → candidate stage n online labels (triedAt i) ≡ true → Exactly (Tried i) f → Exactly (Tried (suc i)) (another f (triedAt i))
+  unfolding another
+  one-more i c (no-set h) = one-set (i, omega arith, refl, c) (λ y t. elim (last-tried i y t) [ inl q ↦ q | inr u ↦ absurd (h y u) ])
+  one-more i c (several-sets {x} {y} p q ne) = several-sets (more-tried i x p) (more-tried i y q) ne
+  one-more i c (one-set {x} p u) = go (same-or-not x (triedAt i))
+    where
+      go : (x ≡ triedAt i) ⊎ (x ≢ triedAt i) → Exactly (Tried (suc i)) (cond (eqb x (triedAt i)) (one x) several)
+      go (inl q) = rw (eq-eqb x (triedAt i) q) (one-set (more-tried i x p) (λ y t. elim (last-tried i y t) [ inl r ↦ r ∙ sym q | inr v ↦ u y v ]))
+      go (inr q) = rw (ne-eqb x (triedAt i) q) (several-sets (more-tried i x p) (i, omega arith, refl, c) q)
+
+  among-tried : (i : ℕ) → Exactly (Tried i) (among stage n online labels i)
+  unfolding among
+  among-tried zero = no-set (λ x (j, l, e, c). omega arith)
+  among-tried (suc i) = go (among-tried i) (test (candidate stage n online labels (triedAt i)))
+    where
+      go : Exactly (Tried i) (among stage n online labels i) → Test (candidate stage n online labels (triedAt i))
+          → Exactly (Tried (suc i)) (cond (candidate stage n online labels (triedAt i)) (another (among stage n online labels i) (triedAt i)) (among stage n online labels i))
+      go h (passes e) = rw e (one-more i e h)
+      go h (fails e) = rw e (exactly-map (more-tried i) (λ x t. elim (last-tried i x t) [ inl q ↦ clash (rw q at (t .3)) e | inr u ↦ u ]) h)
+
+  -- every candidate is one that some member's label has
+  is-tried : (x : ℕ) → Candidate stage online labels x → Tried n x
+  unfolding tried
+  is-tried x c =
+      let (d, m, z) = c .proposed in
+      (d, candidate-below stage n online labels known x c d m, has-it stage (labelAt labels d) (c .each d m) z, if-candidate stage n online labels known x c)
+    where
+      has-it : (stage : Stage) (l : Label) → Backs stage l x → Proposes stage l x → tried stage l ≡ x
+      has-it first l e z = e
+      has-it second l e z = z
+      has-it third l e z = e
+
+  among-right : Exactly (Candidate stage online labels) (among stage n online labels n)
+  among-right = exactly-map (λ x (j, l, e, c). candidate-if stage n online labels known x c) is-tried (among-tried n)
+
+pub finds-named : FindsNamed
+unfolding find orLater
+finds-named n online labels known =
+    named-as-defined n online labels known .only _
+    (go (among first n online labels n) (among second n online labels n) (among third n online labels n) (among-right n online labels known first) (among-right n online labels known second) (among-right n online labels known third))
+  where
+    go : (f g h : Found) → Exactly (Candidate first online labels) f → Exactly (Candidate second online labels) g → Exactly (Candidate third online labels) h
+        → Names online labels (orLater f (orLater g h))
+    go (one x) g h p q r = by-first (one-not-none n online labels known x) p
+    go several g h p q r = by-first (several-not-none n online labels known) p
+    go none (one x) h p q r = by-second (one-not-none n online labels known x) p q
+    go none several h p q r = by-second (several-not-none n online labels known) p q
+    go none none h p q r = by-third p q r
