@@ -13,3 +13,5 @@ pub mod Writes
 pub mod Joins
 pub mod Cleans
 pub mod Restarts
+pub mod Passing
+pub mod Safety

@@ -1,0 +1,186 @@
+-- The ways in which a call ends, and what is known where it is not refused. Assumes nothing.
+use mathlib.Core.Path.{_≡_, refl, sym, ap, _∙_}
+use mathlib.Core.Logic.{_≢_, _⊎_, inl, inr}
+use mathlib.Core.Bool.{Bool, true, false, not, cond}
+use mathlib.Core.List.{List, [], _∷_}
+use Prim.Native.Nat.{ℕ, _≤_, _<_}
+use native.Mathlib.Omega.{arith}
+use lib.Dec.{eqb, ltb, lit<}
+use lib.ListN.{length}
+use borrow.Author.Tests.{eqb-true, eqb-false, eq-eqb, ne-eqb, ltb-true, ltb-false, not-false}
+use Rattle.sets.specs.Sets.{has}
+use Rattle.sets.proofs.Tests.{Test, passes, fails, test, clash}
+use Rattle.label.specs.Refusals.{firstOf}
+use Rattle.label.proofs.Order.{none-of}
+use Rattle.protocol.specs.declared.Power.{Power}
+use Rattle.protocol.specs.declared.Power.the-variants.{Stopped, Running}
+use Rattle.protocol.specs.declared.State.{State}
+use Rattle.protocol.specs.Geometry.{blockSize, areaSize}
+use Rattle.protocol.specs.Soundness.{currentOf, isRunning, live, Sound, sound}
+use Rattle.protocol.specs.Stores.{Store, applyAll, made}
+use Rattle.protocol.specs.Naming.{Found, none, one, several}
+use Rattle.protocol.specs.Outcomes.{Outcome, outcome, refusedOr, disksOf, ended, carryOut}
+use Rattle.protocol.specs.Calls.{isNone, isSeveral, foundBy, unsound, areaUnfit, blockRefusals, joinRefusals, cleanRefusals, restartRefusals, plugRefusals}
+use Rattle.protocol.proofs.Loops.{same-or-not}
+use Rattle.protocol.proofs.Soundness.{test-agrees}
+
+-- ---- how a call ends
+
+-- refused or not
+module _ (refusals : List (ℕ × Bool)) (s : State) (area output : List ℕ) (done : Outcome) where
+  pub refused-or : (P : Outcome → Type 0) → (firstOf refusals ≢ 0 → P (outcome (firstOf refusals) 0 s area output)) → (firstOf refusals ≡ 0 → P done)
+      → P (refusedOr refusals s area output done)
+  unfolding refusedOr
+  refused-or P refused passed = go (same-or-not (firstOf refusals) 0)
+    where
+      go : (firstOf refusals ≡ 0) ⊎ (firstOf refusals ≢ 0) → P (cond (eqb (firstOf refusals) 0) done (outcome (firstOf refusals) 0 s area output))
+      go (inl e) = rw (eq-eqb (firstOf refusals) 0 e) (passed e)
+      go (inr ne) = rw (ne-eqb (firstOf refusals) 0 ne) (refused ne)
+
+-- cut or whole
+module _ (stores : List Store) (budget g : ℕ) (s : State) (area output : List ℕ) where
+  pub cut-or-whole : (P : Outcome → Type 0)
+      → (budget < length stores → P (ended 15 budget s (applyAll (s .blocks) (made budget stores) (disksOf s area)) Stopped output))
+      → (length stores ≤ budget → P (ended 0 (length stores) s (applyAll (s .blocks) stores (disksOf s area)) (Running g) output))
+      → P (carryOut stores budget g s area output)
+  unfolding carryOut
+  cut-or-whole P cut whole = go (test (ltb budget (length stores)))
+    where
+      go : Test (ltb budget (length stores))
+          → P (cond (ltb budget (length stores))
+          (ended 15 budget s (applyAll (s .blocks) (made budget stores) (disksOf s area)) Stopped output)
+          (ended 0 (length stores) s (applyAll (s .blocks) stores (disksOf s area)) (Running g) output))
+      go (passes e) = rw e (cut (ltb-true _ _ e))
+      go (fails e) = rw e (whole (ltb-false _ _ e))
+
+-- ---- what is known where a call is not refused
+
+abbrev pub Runs : Power → Type 0
+Runs Stopped = ⊥
+Runs (Running g) = Unit {0}
+
+runs-if : (p : Power) → not (isRunning p) ≡ false → Runs p
+runs-if Stopped e = clash refl e
+runs-if (Running g) e = tt
+
+abbrev pub Stops : Power → Type 0
+Stops Stopped = Unit {0}
+Stops (Running g) = ⊥
+
+stops-if : (p : Power) → isRunning p ≡ false → Stops p
+stops-if Stopped e = tt
+stops-if (Running g) e = clash refl e
+
+sound-if : (s : State) → not (sound s) ≡ false → Sound s
+sound-if s e = test-agrees s .0 (not-false _ e)
+
+positive : (m : ℕ) → eqb m 0 ≡ false → 0 < m
+positive m e = go (same-or-not m 0)
+  where
+    go : (m ≡ 0) ⊎ (m ≢ 0) → 0 < m
+    go (inl q) = absurd (eqb-false m 0 e q)
+    go (inr q) = omega arith
+
+pub record BlockPassed (s : State) (area : List ℕ) (k : ℕ) (bytes : List ℕ) : Type 0 where
+  pub fit : Sound s
+  pub size : length area ≡ areaSize (s .disks) (s .blocks)
+  pub full : length bytes ≡ blockSize
+  pub power : Runs (s .power)
+  pub known : k < s .blocks
+  pub some : 0 < live s
+
+pub block-passed : (s : State) (area : List ℕ) (k : ℕ) (bytes : List ℕ) → firstOf (blockRefusals s area k bytes) ≡ 0 → BlockPassed s area k bytes
+unfolding blockRefusals
+block-passed s area k bytes e =
+    let (p1, e1) = none-of 1 _ _ (lit< tt) e in
+    let (p2, e2) = none-of 2 _ _ (lit< tt) e1 in
+    let (p3, e3) = none-of 3 _ _ (lit< tt) e2 in
+    let (p6, e6) = none-of 6 _ _ (lit< tt) e3 in
+    let (p9, e9) = none-of 9 _ _ (lit< tt) e6 in
+    let (p12, e12) = none-of 12 _ _ (lit< tt) e9 in
+    record {
+      fit = sound-if s p1;
+      size = eqb-true _ _ (not-false _ p2);
+      full = eqb-true _ _ (not-false _ p3);
+      power = runs-if (s .power) p6;
+      known = ltb-true _ _ (not-false _ p9);
+      some = positive (live s) p12;
+    }
+
+pub record JoinPassed (s : State) (area : List ℕ) (d : ℕ) : Type 0 where
+  pub fit : Sound s
+  pub size : length area ≡ areaSize (s .disks) (s .blocks)
+  pub power : Runs (s .power)
+  pub known : d < s .disks
+  pub some : 0 < live s
+
+pub join-passed : (s : State) (area : List ℕ) (d : ℕ) → firstOf (joinRefusals s area d) ≡ 0 → JoinPassed s area d
+unfolding joinRefusals
+join-passed s area d e =
+    let (p1, e1) = none-of 1 _ _ (lit< tt) e in
+    let (p2, e2) = none-of 2 _ _ (lit< tt) e1 in
+    let (p6, e6) = none-of 6 _ _ (lit< tt) e2 in
+    let (p8, e8) = none-of 8 _ _ (lit< tt) e6 in
+    let (p10, e10) = none-of 10 _ _ (lit< tt) e8 in
+    let (p11, e11) = none-of 11 _ _ (lit< tt) e10 in
+    let (p12, e12) = none-of 12 _ _ (lit< tt) e11 in
+    record {
+      fit = sound-if s p1;
+      size = eqb-true _ _ (not-false _ p2);
+      power = runs-if (s .power) p6;
+      known = ltb-true _ _ (not-false _ p8);
+      some = positive (live s) p12;
+    }
+
+pub record CleanPassed (s : State) : Type 0 where
+  pub fit : Sound s
+  pub power : Runs (s .power)
+
+pub clean-passed : (s : State) → firstOf (cleanRefusals s) ≡ 0 → CleanPassed s
+unfolding cleanRefusals
+clean-passed s e =
+    let (p1, e1) = none-of 1 _ _ (lit< tt) e in
+    let (p6, e6) = none-of 6 _ _ (lit< tt) e1 in
+    record { fit = sound-if s p1; power = runs-if (s .power) p6 }
+
+abbrev pub NamesOne : Found → Type 0
+NamesOne none = ⊥
+NamesOne (one x) = Unit {0}
+NamesOne several = ⊥
+
+names-one-if : (f : Found) → isNone f ≡ false → isSeveral f ≡ false → NamesOne f
+names-one-if none p q = clash refl p
+names-one-if (one x) p q = tt
+names-one-if several p q = clash refl q
+
+pub record RestartPassed (s : State) (area : List ℕ) : Type 0 where
+  pub fit : Sound s
+  pub size : length area ≡ areaSize (s .disks) (s .blocks)
+  pub power : Stops (s .power)
+  pub names : NamesOne (foundBy s)
+
+pub restart-passed : (s : State) (area : List ℕ) → firstOf (restartRefusals s area) ≡ 0 → RestartPassed s area
+unfolding restartRefusals
+restart-passed s area e =
+    let (p1, e1) = none-of 1 _ _ (lit< tt) e in
+    let (p2, e2) = none-of 2 _ _ (lit< tt) e1 in
+    let (p7, e7) = none-of 7 _ _ (lit< tt) e2 in
+    let (p13, e13) = none-of 13 _ _ (lit< tt) e7 in
+    let (p14, e14) = none-of 14 _ _ (lit< tt) e13 in
+    record {
+      fit = sound-if s p1;
+      size = eqb-true _ _ (not-false _ p2);
+      power = stops-if (s .power) p7;
+      names = names-one-if (foundBy s) p13 p14;
+    }
+
+pub record PlugPassed (s : State) (d : ℕ) : Type 0 where
+  pub fit : Sound s
+  pub known : d < s .disks
+
+pub plug-passed : (s : State) (d : ℕ) → firstOf (plugRefusals s d) ≡ 0 → PlugPassed s d
+unfolding plugRefusals
+plug-passed s d e =
+    let (p1, e1) = none-of 1 _ _ (lit< tt) e in
+    let (p8, e8) = none-of 8 _ _ (lit< tt) e1 in
+    record { fit = sound-if s p1; known = ltb-true _ _ (not-false _ p8) }
