@@ -1,4 +1,7 @@
+-- The theorems of the protocol, for every n and b, and what they rest on.
 pub mod Loops
+pub mod Turns
+pub mod Refusals
 pub mod Runs
 pub mod Areas
 pub mod Labels
@@ -15,3 +18,8 @@ pub mod Cleans
 pub mod Restarts
 pub mod Passing
 pub mod Safety
+pub mod Assembling
+pub mod Saving
+pub mod Formatting
+pub mod Histories
+pub mod Demand3

@@ -19,6 +19,7 @@ use Rattle.protocol.specs.declared.Power.the-variants.{Stopped, Running}
 use Rattle.protocol.specs.declared.State.{State}
 use Rattle.protocol.specs.declared.Call.{Call}
 use Rattle.protocol.specs.declared.Call.the-variants.{Read, Write, Join, Clean, Restart, Detach, Attach, PowerOff}
+use Rattle.protocol.specs.Geometry.{areaSize}
 use Rattle.protocol.specs.Soundness.{currentOf, live, Sound}
 use Rattle.protocol.specs.Stores.{Disks, Store, applyAll}
 use Rattle.protocol.specs.Lists.{writeList, joinList, cleanList, restartList}
@@ -51,9 +52,12 @@ pub record Safe (c : Contents) (cabinet : Cabinet) : Type 0 where
 abbrev SafeAfter : Contents → Outcome → Type 0
 SafeAfter c o = Safe c (cabinetOf o)
 
-held-stops : (n b : ℕ) (c : Contents) (w : Disks) (p : Power) → Held n b c w p → Restartable n b c w
+pub held-stops : (n b : ℕ) (c : Contents) (w : Disks) (p : Power) → Held n b c w p → Restartable n b c w
 held-stops n b c w Stopped h = h
 held-stops n b c w (Running g) h = steady-stops n b c h
+
+pub held-size : (n b : ℕ) (c : Contents) (w : Disks) (p : Power) → Held n b c w p → length (w .area) ≡ areaSize n b
+held-size n b c w p h = held-stops n b c w p h .size
 
 -- a list of stores under a budget
 carried : (c : Contents) (s : State) (area output : List ℕ) (stores : List Store) (budget g : ℕ)

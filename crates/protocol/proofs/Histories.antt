@@ -1,0 +1,61 @@
+-- A list of calls, and the book beside it: what holds after any list that a done fresh begins. Assumes nothing.
+use mathlib.Core.Path.{_≡_, refl, sym, ap, _∙_}
+use mathlib.Core.Logic.{_≢_}
+use mathlib.Core.List.{List, [], _∷_, _++_}
+use mathlib.Core.Bool.{Bool}
+use Prim.Native.Nat.{ℕ}
+use Rattle.protocol.specs.declared.Call.{Call}
+use Rattle.protocol.specs.declared.Call.the-variants.{Read, Write, Join, Clean, Restart, Detach, Attach, PowerOff}
+use Rattle.protocol.specs.declared.State.{State}
+use Rattle.protocol.specs.Stores.{Store}
+use Rattle.protocol.specs.Outcomes.{Outcome, refusedOr, carryOut}
+use Rattle.protocol.specs.Calls.{readOutcome, writeOutcome, joinOutcome, cleanOutcome, restartOutcome, detachOutcome, attachOutcome, powerOffOutcome}
+use Rattle.protocol.specs.History.{Step, Cabinet, perform, outcomeOf, cabinetOf, ran}
+use Rattle.protocol.specs.Book.{Book, noted, kept}
+use Rattle.protocol.proofs.Passing.{refused-or, cut-or-whole}
+
+-- ---- calls leave n and b
+
+abbrev SameSize : State → Outcome → Type 0
+SameSize s o = (o .answer .state .disks ≡ s .disks) × (o .answer .state .blocks ≡ s .blocks)
+
+unless-refused : (refusals : List (ℕ × Bool)) (s : State) (area output : List ℕ) (done : Outcome) → SameSize s done → SameSize s (refusedOr refusals s area output done)
+unless-refused refusals s area output done h = refused-or refusals s area output done (SameSize s) (λ ne. (refl, refl)) (λ e. h)
+
+carried-size : (stores : List Store) (budget g : ℕ) (s : State) (area output : List ℕ) → SameSize s (carryOut stores budget g s area output)
+carried-size stores budget g s area output = cut-or-whole stores budget g s area output (SameSize s) (λ l. (refl, refl)) (λ l. (refl, refl))
+
+pub same-size : (call : Call) (bytes output : List ℕ) (c : Cabinet) → SameSize (c .state) (perform call bytes output c)
+unfolding perform readOutcome writeOutcome joinOutcome cleanOutcome restartOutcome detachOutcome attachOutcome powerOffOutcome
+same-size (Read k) bytes output c = unless-refused _ (c .state) (c .area) output _ (refl, refl)
+same-size (Write k budget) bytes output c = unless-refused _ (c .state) (c .area) output _ (carried-size _ budget _ (c .state) (c .area) output)
+same-size (Join d budget) bytes output c = unless-refused _ (c .state) (c .area) output _ (carried-size _ budget _ (c .state) (c .area) output)
+same-size (Clean budget) bytes output c = unless-refused _ (c .state) (c .area) output _ (carried-size _ budget _ (c .state) (c .area) output)
+same-size (Restart budget) bytes output c = unless-refused _ (c .state) (c .area) output _ (carried-size _ budget _ (c .state) (c .area) output)
+same-size (Detach d) bytes output c = unless-refused _ (c .state) (c .area) output _ (refl, refl)
+same-size (Attach d) bytes output c = unless-refused _ (c .state) (c .area) output _ (refl, refl)
+same-size PowerOff bytes output c = unless-refused _ (c .state) (c .area) output _ (refl, refl)
+
+-- ---- two lists in a row
+
+pub ran-append : (xs ys : List Step) (c : Cabinet) → ran (xs ++ ys) c ≡ ran ys (ran xs c)
+unfolding ran
+ran-append [] ys c = refl
+ran-append (x ∷ xs) ys c = ran-append xs ys (cabinetOf (outcomeOf x c))
+
+pub kept-append : (xs ys : List Step) (book : Book) → kept (xs ++ ys) book ≡ kept ys (kept xs book)
+unfolding kept
+kept-append [] ys book = refl
+kept-append (x ∷ xs) ys book = kept-append xs ys (noted x book)
+
+-- the book's cabinet does what the program's does
+pub same-cabinet : (calls : List Step) (book : Book) → kept calls book .cabinet ≡ ran calls (book .cabinet)
+unfolding kept ran noted
+same-cabinet [] book = refl
+same-cabinet (x ∷ calls) book = same-cabinet calls (noted x book)
+
+-- what each call keeps holds after any list
+pub after-calls : (I : Book → Type 0) → ((x : Step) (book : Book) → I book → I (noted x book)) → (calls : List Step) (book : Book) → I book → I (kept calls book)
+unfolding kept
+after-calls I keep [] book h = h
+after-calls I keep (x ∷ calls) book h = after-calls I keep calls (noted x book) (keep x book h)

@@ -1,0 +1,122 @@
+-- From what save gives, and the state's own reach, assembling gives the state after a cut. Assumes nothing.
+use mathlib.Core.Path.{_≡_, refl, sym, ap, _∙_}
+use mathlib.Core.Bool.{false}
+use mathlib.Core.List.{List, append-assoc}
+use Prim.Native.Nat.{ℕ, _*_, _<_}
+use native.Mathlib.Nat.{le-refl, lt-of-lt-of-le, add-sub-of-le}
+use native.Mathlib.Decide.{decLt}
+use native.Mathlib.Omega.{arith}
+use lib.Pow.{pow-mono}
+use lib.ListN.{length, length-append, length-replicate}
+use lib.Seq.{ext-getD}
+use borrow.Author.Tests.{le-ltb, lt-leb, eq-eqb}
+use Rattle.sets.proofs.Bounds.{below-pow}
+use Rattle.label.specs.declared.Label.{Label}
+use Rattle.label.specs.Form.{narrow}
+use Rattle.label.specs.Bytes.{encode}
+use Rattle.label.specs.Refusals.{firstOf, outside, wrongSets}
+use Rattle.label.specs.Reading.{found}
+use Rattle.label.specs.Codec.{Writable}
+use Rattle.label.proofs.Accepting.{accepted}
+use Rattle.label.proofs.Codec.{narrow-codec}
+use Rattle.protocol.specs.declared.State.{State}
+use Rattle.protocol.specs.Geometry.{mostDisks, mostBlocks, regions}
+use Rattle.protocol.specs.Loops.{ascending}
+use Rattle.protocol.specs.Soundness.{blank, labelAt, InRange, FitLabel, Sound}
+use Rattle.protocol.specs.Outcomes.{refusedOr}
+use Rattle.protocol.specs.Saving.{slotSize, slotBytes, saveOutcome, slotReading, slotRefusals, assembleRefusals, assembled, assembleAnswer, SavedAssembles}
+use Rattle.protocol.proofs.Loops.{Each, each-ascending}
+use Rattle.protocol.proofs.Soundness.{test-agrees}
+use Rattle.protocol.proofs.Turns.{even-length, even-turn}
+use Rattle.protocol.proofs.Refusals.{Unmet, none-given, none-applies}
+use Rattle.protocol.proofs.Assembling.{right-set, slot-numbered, label-read, blank-past, all-slots}
+
+-- ---- one label
+
+-- a count of disks that is in range is not refused
+not-outside : (n b : ℕ) → InRange n b → outside narrow n ≡ false
+unfolding outside
+not-outside n b h = rw (le-ltb n 1 (h .some-disk), le-ltb mostDisks n (h .disks))
+
+module _ (n b d : ℕ) (l : Label) (range : InRange n b) (low : d < n) (fit : FitLabel n b d l) where
+  -- the label writer takes a sound state's label
+  writable : Writable narrow d n l
+  unfolding Writable wrongSets
+  writable =
+      accepted narrow d n l _
+      (record {
+        count = not-outside n b range;
+        number = lt-leb n d low;
+        sets = rw (right-set n d (l .committed) .1 (fit .committed)) (right-set n d (l .tentative) .1 (fit .tentative));
+      })
+      (le-refl _)
+
+  -- no cabinet has more regions than a byte has bits
+  dirty-byte : l .dirty < 256
+  unfolding regions
+  dirty-byte = lt-of-lt-of-le (below-pow (l .dirty) (regions b) .0 (fit .dirty)) (pow-mono {j = 8} (omega arith))
+
+-- ---- the slots of a state
+
+-- what save puts out for disk d, and for all
+abbrev slotOf : State → ℕ → List ℕ
+slotOf s d = slotBytes d (s .disks) (labelAt (s .labels) d)
+
+abbrev slotsOf : State → List ℕ
+slotsOf s = ascending (s .disks) (slotOf s)
+
+-- each slot has its size
+slot-length : (s : State) (d : ℕ) → length (slotOf s d) ≡ slotSize
+unfolding slotBytes
+slot-length s d = simp (length-append, length-replicate) (add-sub-of-le (narrow-codec .lengths d (s .disks) (labelAt (s .labels) d) .1))
+
+module _ (s : State) (fit : Sound s) where
+  -- save takes a sound state, and puts these slots out
+  saved : (area slots : List ℕ) → length slots ≡ slotSize * s .disks → saveOutcome s area slots .output ≡ slotsOf s
+  unfolding saveOutcome refusedOr firstOf
+  saved area slots e = rw (test-agrees s .1 fit, eq-eqb _ _ e)
+
+  -- each is read as the label that it was written for
+  slot-read : (d : ℕ) → d < s .disks
+      → slotReading (slotsOf s) d ≡ found d (s .disks) (labelAt (s .labels) d) (length (encode narrow d (s .disks) (labelAt (s .labels) d)))
+  unfolding slotReading slotBytes
+  slot-read d l =
+      let label = labelAt (s .labels) d in
+      let here = fit .labels .each d l in
+      let (later, e) = even-turn slotSize (slotOf s) (slot-length s) (s .disks) d l in
+      rw (e, append-assoc (encode narrow d (s .disks) label))
+      (narrow-codec .written-reads d (s .disks) label _ (dirty-byte _ _ d label (fit .range) l here) (writable _ _ d label (fit .range) l here))
+
+  -- assembling takes them
+  none-refused : firstOf (assembleRefusals (s .disks) (s .blocks) (s .online) (slotsOf s)) ≡ 0
+  unfolding assembleRefusals slotRefusals firstOf
+  none-refused =
+      rw (
+        not-outside (s .disks) (s .blocks) (fit .range),
+        le-ltb (s .blocks) 1 (fit .range .some-block),
+        le-ltb mostBlocks (s .blocks) (fit .range .blocks),
+        eq-eqb (length (slotsOf s)) (slotSize * s .disks) (even-length slotSize (slotOf s) (slot-length s) (s .disks)),
+        fit .online,
+      ) (none-given (each-ascending (s .disks) _ unmet))
+    where
+      unmet : (d : ℕ) → d < s .disks → Each Unmet (slotRefusals d (s .disks) (s .blocks) (slotReading (slotsOf s) d))
+      unmet d l =
+          none-applies (slot-numbered d (s .disks) (s .blocks) (slotReading (slotsOf s) d))
+          (rw (slot-read d l, eq-eqb d d refl, eq-eqb (s .disks) (s .disks) refl, fit .labels .each d l .dirty))
+
+  -- and gives the state's labels, those from n up too
+  same-labels : length (s .labels) ≡ mostDisks → assembled (s .disks) (s .blocks) (s .online) (slotsOf s) .labels ≡ s .labels
+  same-labels e = ext-getD blank _ _ (all ∙ sym e) (λ d l. same d (rw all at l) (decLt d (s .disks)))
+    where
+      all : length (assembled (s .disks) (s .blocks) (s .online) (slotsOf s) .labels) ≡ mostDisks
+      all = all-slots (s .disks) (s .blocks) (s .online) (slotsOf s) (fit .range .disks)
+
+      same : (d : ℕ) → d < mostDisks → Dec (d < s .disks)
+          → labelAt (assembled (s .disks) (s .blocks) (s .online) (slotsOf s) .labels) d ≡ labelAt (s .labels) d
+      same d l (yes p) = label-read _ (s .blocks) (s .online) (slotsOf s) d p ∙ ap (λ r. r .label) (slot-read d p)
+      same d l (no g) = blank-past _ (s .blocks) (s .online) (slotsOf s) d (omega arith) ∙ sym (fit .labels .rest d (omega arith) l)
+
+-- saved, then assembled: the state after a cut
+pub saved-assembles : SavedAssembles
+unfolding assembleAnswer assembled
+saved-assembles s area slots fit long e = rw (saved s fit area slots e, none-refused s fit, same-labels s fit long)
