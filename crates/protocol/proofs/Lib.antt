@@ -23,3 +23,4 @@ pub mod Saving
 pub mod Formatting
 pub mod Histories
 pub mod Demand3
+pub mod HandCases
