@@ -1,5 +1,5 @@
 -- Blocks in the disk area: a block that is stored is there, and the others stay. Assumes nothing.
-use mathlib.Core.Path.{_≡_, refl, sym, ap, _∙_}
+use mathlib.Core.Path.{_≡_, sym, ap, _∙_}
 use mathlib.Core.Logic.{_≢_, _⊎_, inl, inr}
 use mathlib.Core.List.{List, _++_}
 use Prim.Native.Nat.{ℕ, _+_, _-_, _*_, _≤_, _<_}
@@ -9,7 +9,7 @@ use native.Mathlib.Decide.{decLt}
 use lib.ListN.{length, getD, take, drop, replicate, length-append, length-take, length-drop, length-replicate, List·getD-append, getD-replicate}
 use lib.Seq.{ext-getD, getD-take, getD-drop, getD-append-add, length-take-le}
 use Rattle.label.specs.Writing.{splice}
-use Rattle.protocol.specs.Geometry.{blockSize, areaSize, place, block, withBlock}
+use Rattle.protocol.specs.Geometry.{blockSize, regionOf, regions, areaSize, place, block, withBlock}
 
 -- ---- parts of a list
 
@@ -58,6 +58,11 @@ same-part size p q s t hs ht same =
     (λ i h. let l : i < size = rw (part-length size p s hs) at h in part-at size p s i l ∙ same i l ∙ sym (part-at size q t i l))
 
 -- ---- where blocks stand
+
+-- each block lies in one of the regions
+pub region-known : (b k : ℕ) → k < b → regionOf k < regions b
+unfolding regionOf regions
+region-known b k h = omega arith
 
 place-fits : (n b d k : ℕ) → d < n → k < b → place b d k + blockSize ≤ areaSize n b
 unfolding place areaSize

@@ -1,16 +1,14 @@
 -- The sets that labels back, and what they leave a restart to name. Every candidate of every stage is backed, so what limits the backed sets limits what
 -- a restart can name, whichever disks are in reach. Assumes nothing.
-use mathlib.Core.Path.{_≡_, refl, sym, ap, _∙_}
-use mathlib.Core.Logic.{_≢_, _⊎_, inl, inr}
-use mathlib.Core.Bool.{Bool, true, false}
+use mathlib.Core.Path.{_≡_, refl, sym, _∙_}
+use mathlib.Core.Logic.{inl, inr}
+use mathlib.Core.Bool.{true, false}
 use mathlib.Core.List.{List}
-use Prim.Native.Nat.{ℕ, _^_, _≤_, _<_}
-use native.Mathlib.Omega.{arith}
+use Prim.Native.Nat.{ℕ, _^_, _<_}
 use lib.Dec.{eqb}
 use borrow.Author.Tests.{eqb-true, eq-eqb, lt-ltb}
 use Rattle.sets.specs.Sets.{has, all}
 use Rattle.sets.proofs.Tests.{Test, passes, fails, test, clash}
-use Rattle.sets.proofs.Membership.{has-empty}
 use Rattle.sets.proofs.Operations.{has-all}
 use Rattle.sets.proofs.Bounds.{member-below}
 use Rattle.sets.proofs.LowestMember.{lowest-has}

@@ -1,5 +1,4 @@
 -- A clean, cut anywhere, leaves disks that run as before: every member of the current set holds the book, so its dirty bits are not needed. Assumes nothing.
-use mathlib.Core.List.{List}
 use Prim.Native.Nat.{ℕ}
 use Rattle.protocol.specs.Soundness.{isDirty}
 use Rattle.protocol.specs.declared.State.{State}

@@ -1,11 +1,10 @@
 -- When the stores made include a write's block store on the source of its set. Assumes nothing.
-use mathlib.Core.Path.{_≡_, refl, sym, ap, _∙_}
-use mathlib.Core.Bool.{Bool, true, false, cond, _&&_, _||_}
+use mathlib.Core.Path.{_≡_, refl, sym, _∙_}
+use mathlib.Core.Bool.{true, false, cond, _||_, or-assoc}
 use mathlib.Core.List.{List, [], _∷_, _++_}
-use Prim.Native.Nat.{ℕ, _^_, _≤_, _<_}
+use Prim.Native.Nat.{ℕ, _^_, _<_}
 use lib.Dec.{eqb}
-use lib.ListN.{length, take}
-use lib.Seq.{take-append-le}
+use lib.ListN.{take}
 use borrow.Author.Tests.{eq-eqb}
 use Rattle.sets.specs.Sets.{has}
 use Rattle.sets.proofs.Bounds.{member-below}
@@ -14,7 +13,7 @@ use Rattle.label.specs.declared.Label.{Label}
 use Rattle.protocol.specs.Geometry.{regionOf}
 use Rattle.protocol.specs.Loops.{forEach}
 use Rattle.protocol.specs.Soundness.{isDirty, source}
-use Rattle.protocol.specs.Stores.{Store, write, mark}
+use Rattle.protocol.specs.Stores.{Store, write}
 use Rattle.protocol.specs.Lists.{marks, moveToLive, preparations, blockStores}
 use Rattle.protocol.specs.Book.{isBlockStore, include}
 use Rattle.protocol.proofs.Loops.{Each, nil, cons, each-append, each-take, each-map, each-unless, each-member, begins}
@@ -24,11 +23,7 @@ use Rattle.protocol.proofs.Backing.{source-has}
 pub include-append : (d k : ℕ) (xs ys : List Store) → include d k (xs ++ ys) ≡ (include d k xs || include d k ys)
 unfolding include
 include-append d k [] ys = refl
-include-append d k (x ∷ xs) ys = rw (include-append d k xs ys) (assoc (isBlockStore d k x) (include d k xs) (include d k ys))
-  where
-    assoc : (a b c : Bool) → (a || (b || c)) ≡ ((a || b) || c)
-    assoc true b c = refl
-    assoc false b c = refl
+include-append d k (x ∷ xs) ys = rw (include-append d k xs ys) (sym (or-assoc (isBlockStore d k x) (include d k xs) (include d k ys)))
 
 -- ---- nothing before the first block store is one
 

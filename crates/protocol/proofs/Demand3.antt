@@ -1,39 +1,36 @@
 -- Demand 3, proved. Assumes nothing.
 use mathlib.Core.Path.{_≡_, refl, sym, ap, _∙_, subst}
-use mathlib.Core.Logic.{_≢_, _⊎_, inl, inr}
+use mathlib.Core.Logic.{_≢_}
 use mathlib.Core.Bool.{Bool, true, false, not, cond}
 use mathlib.Core.List.{List, [], _∷_, _++_}
-use Prim.Native.Nat.{ℕ, _^_, _≤_, _<_}
+use Prim.Native.Nat.{ℕ, _≤_, _<_}
 use native.Mathlib.Omega.{arith}
-use lib.Dec.{eqb, ltb}
 use lib.ListN.{length}
 use borrow.Author.Tests.{eq-eqb, le-ltb}
 use Rattle.sets.specs.Sets.{has, all}
 use Rattle.sets.proofs.Bounds.{below-pow}
-use Rattle.label.specs.declared.Label.{Label}
 use Rattle.label.specs.Refusals.{firstOf}
-use Rattle.protocol.specs.declared.Call.{Call}
-use Rattle.protocol.specs.declared.Call.the-variants.{Read, Restart}
+use Rattle.protocol.specs.declared.Call.the-variants.{Restart}
 use Rattle.protocol.specs.declared.Power.{Power}
 use Rattle.protocol.specs.declared.Power.the-variants.{Stopped, Running}
 use Rattle.protocol.specs.declared.State.{State}
-use Rattle.protocol.specs.Geometry.{areaSize, block}
+use Rattle.protocol.specs.Geometry.{block}
 use Rattle.protocol.specs.Soundness.{sound, isRunning}
 use Rattle.protocol.specs.Stores.{Disks, Store}
 use Rattle.protocol.specs.Lists.{restartList}
 use Rattle.protocol.specs.Naming.{Found, none, one, several, Names}
 use Rattle.protocol.specs.Outcomes.{Outcome, disksOf, refusedOr, carryOut}
 use Rattle.protocol.specs.Calls.{wrongArea, isNone, isSeveral, theSet, foundBy, restartRefusals, restartOutcome, formatted, formatOutcome}
-use Rattle.protocol.specs.History.{Step, Cabinet, perform, outcomeOf, cabinetOf, ran}
+use Rattle.protocol.specs.History.{Step, Cabinet, perform, outcomeOf, ran}
 use Rattle.protocol.specs.Book.{Contents, Book, opened, noted, kept}
-use Rattle.protocol.specs.Demand3.{CallIn, program, at, result, book, Demand3, Demand3Holds}
+use Rattle.protocol.specs.Demand3.{CallIn, program, at, result, book, Demand3}
 use Rattle.protocol.specs.Claims.{Proper}
 use Rattle.protocol.proofs.Soundness.{test-agrees}
 use Rattle.protocol.proofs.Naming.{named-as-defined}
-use Rattle.protocol.proofs.Backing.{Recoverable, never-several, finds-one}
+use Rattle.protocol.proofs.Backing.{never-several, finds-one}
 use Rattle.protocol.proofs.Holding.{Steady, Restartable}
 use Rattle.protocol.proofs.Passing.{refused-or, cut-or-whole}
-use Rattle.protocol.proofs.Safety.{Held, held-stops, held-size, Safe, call-keeps}
+use Rattle.protocol.proofs.Safety.{Held, held-stops, Safe, call-keeps}
 use Rattle.protocol.proofs.Formatting.{format-done, opened-safe}
 use Rattle.protocol.proofs.Histories.{same-size, kept-append, same-cabinet, after-calls}
 

@@ -1,15 +1,15 @@
 -- What a done fresh gives. Assumes nothing.
 use mathlib.Core.Path.{_≡_, refl, sym, ap, _∙_}
-use mathlib.Core.Logic.{_⊎_, inl, inr, _≢_}
-use mathlib.Core.Bool.{Bool, true, false, _||_}
-use mathlib.Core.List.{List, [], _++_}
-use Prim.Native.Nat.{ℕ, _-_, _^_, _≤_, _<_}
+use mathlib.Core.Logic.{_⊎_, inl, inr}
+use mathlib.Core.Bool.{true}
+use mathlib.Core.List.{List}
+use Prim.Native.Nat.{ℕ, _^_, _≤_, _<_}
 use native.Mathlib.Nat.{add-sub-of-le}
 use native.Mathlib.Omega.{arith}
 use native.Mathlib.Decide.{decLt}
 use lib.Dec.{ltb, lit<}
-use lib.ListN.{length, replicate, getD, length-append, length-replicate, getD-replicate, List·getD-eq-default}
-use borrow.Author.Tests.{ltb-true, lt-ltb, ltb-false, eqb-true, not-false}
+use lib.ListN.{length, replicate, length-append, length-replicate, getD-replicate, List·getD-eq-default}
+use borrow.Author.Tests.{ltb-true, lt-ltb, ltb-false}
 use Rattle.sets.specs.Sets.{has, all}
 use Rattle.sets.proofs.Tests.{or-parts}
 use Rattle.sets.proofs.Operations.{has-all}
@@ -23,14 +23,12 @@ use Rattle.label.proofs.Accepting.{in-range}
 use Rattle.protocol.specs.Geometry.{mostDisks, mostBlocks, areaSize}
 use Rattle.protocol.specs.Soundness.{blank, labelAt, source, InRange}
 use Rattle.protocol.specs.Naming.{second, Backs}
-use Rattle.protocol.specs.Outcomes.{Outcome, outcome}
 use Rattle.protocol.specs.Calls.{formatRefusals, formatted, zeroArea, zeroState, formatOutcome}
 use Rattle.protocol.specs.History.{cabinetOf}
-use Rattle.protocol.specs.Book.{zeroContents, Book, opened}
+use Rattle.protocol.specs.Book.{zeroContents, opened}
 use Rattle.protocol.proofs.Turns.{filled-up}
 use Rattle.protocol.proofs.Areas.{zero-block}
 use Rattle.protocol.proofs.Backing.{Backed, source-has}
-use Rattle.protocol.proofs.Holding.{Steady}
 use Rattle.protocol.proofs.Passing.{refused-or}
 use Rattle.protocol.proofs.Safety.{Safe}
 

@@ -1,6 +1,5 @@
 -- H1 to H12, by computing. Assumes nothing.
-use mathlib.Core.Path.{_≡_, refl}
-use mathlib.Core.List.{List}
+use mathlib.Core.Path.{refl}
 use Rattle.sets.specs.Sets.{has, intersection, difference, singleton, subset, below, lowest}
 use Rattle.label.specs.Bytes.{mapByte, placeByte, littleEndian, encode, labelLength, value, fieldAt, fieldsOf}
 use Rattle.label.specs.Refusals.{firstOf, outside, wrongSet, wrongSets}

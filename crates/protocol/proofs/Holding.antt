@@ -1,27 +1,23 @@
 -- What the disks of a running cabinet and of a stopped one hold, against the book's contents, and which single stores keep it. Assumes nothing.
-use mathlib.Core.Path.{_≡_, refl, sym, ap, _∙_}
+use mathlib.Core.Path.{_≡_, refl, sym, _∙_}
 use mathlib.Core.Logic.{_≢_, _⊎_, inl, inr}
-use mathlib.Core.Bool.{Bool, true, false, not, cond, _||_, _&&_}
+use mathlib.Core.Bool.{true, not}
 use mathlib.Core.List.{List}
 use Prim.Native.Nat.{ℕ, _≤_, _<_}
 use native.Mathlib.Omega.{arith}
-use lib.Dec.{eqb}
 use lib.ListN.{length, set, length-set}
 use lib.Seq.{getD-set-same, getD-set-other}
-use borrow.Author.Tests.{ne-eqb}
-use Rattle.sets.specs.Sets.{has, difference, singleton}
-use Rattle.sets.proofs.Operations.{has-difference, has-singleton}
+use Rattle.sets.proofs.Tests.{same-or-not}
+use Rattle.sets.specs.Sets.{has}
 use Rattle.sets.proofs.Bounds.{member-below}
-use Rattle.label.specs.declared.Label.{Label}
 use Rattle.protocol.specs.Geometry.{blockSize, regionOf, areaSize, block, withBlock}
 use Rattle.protocol.specs.Soundness.{blank, labelAt, isDirty, source}
-use Rattle.protocol.specs.Stores.{Disks, Store, copy, mark, clear, commit, withDirty, onArea, onLabel, apply}
+use Rattle.protocol.specs.Stores.{Disks, withDirty, onArea, onLabel}
 use Rattle.protocol.specs.Naming.{second, Backs}
 use Rattle.protocol.specs.Book.{Contents}
-use Rattle.protocol.proofs.Loops.{same-or-not}
-use Rattle.protocol.proofs.Areas.{block-length, stored-size, stored-same, stored-other}
+use Rattle.protocol.proofs.Areas.{stored-size, stored-same, stored-other}
 use Rattle.protocol.proofs.Labels.{field-set}
-use Rattle.protocol.proofs.Backing.{committedAt, tentativeAt, Backed, Agreed, Recoverable, agreed-backed, agreed-recoverable, source-has}
+use Rattle.protocol.proofs.Backing.{committedAt, tentativeAt, Backed, Agreed, Recoverable, agreed-recoverable, source-has}
 
 module _ (n b : ℕ) (c : Contents) where
   -- block k of disk d is the book's

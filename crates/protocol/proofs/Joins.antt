@@ -1,28 +1,27 @@
 -- A join, cut anywhere, leaves disks that a restart can take up, and whole, disks that run with one more. Assumes nothing.
-use mathlib.Core.Path.{_≡_, refl, sym, ap, _∙_}
-use mathlib.Core.Logic.{_≢_, _⊎_, inl, inr}
-use mathlib.Core.Bool.{Bool, true, false, _||_}
-use mathlib.Core.List.{List, [], _∷_, _++_}
-use Prim.Native.Nat.{ℕ, _^_, _≤_, _<_}
+use mathlib.Core.Path.{_≡_, sym, ap, _∙_}
+use mathlib.Core.Logic.{_⊎_, inl, inr}
+use mathlib.Core.Bool.{true, _||_}
+use mathlib.Core.List.{[], _∷_, _++_}
+use Prim.Native.Nat.{ℕ, _^_, _<_}
 use native.Mathlib.Omega.{arith}
 use lib.Dec.{eqb}
 use borrow.Author.Tests.{eqb-true}
+use Rattle.sets.proofs.Tests.{or-either}
 use Rattle.sets.specs.Sets.{has, union, singleton}
 use Rattle.sets.proofs.Operations.{has-union, has-singleton}
-use Rattle.sets.proofs.Bounds.{member-below, below-pow, below-members}
+use Rattle.sets.proofs.Bounds.{member-below, below-pow, below-with}
 use Rattle.sets.proofs.LowestMember.{non-empty}
-use Rattle.protocol.specs.Loops.{ascending, forEach}
-use Rattle.protocol.specs.Soundness.{isDirty, live, source}
-use Rattle.protocol.specs.declared.State.{State}
-use Rattle.protocol.specs.Stores.{Disks, Store, copy, clear, apply, applyAll}
-use Rattle.protocol.specs.Lists.{move, moveToLive, fill, cleanList}
+use Rattle.protocol.specs.Soundness.{source}
+use Rattle.protocol.specs.Stores.{Disks, Store, copy, apply, applyAll}
+use Rattle.protocol.specs.Lists.{move, moveToLive, fill}
 use Rattle.protocol.specs.Book.{Contents}
-use Rattle.protocol.proofs.Loops.{or-either, Each, nil, cons, each-ascending, each-if, each-member}
-use Rattle.protocol.proofs.Runs.{apply-append, Along, along-append, keeps, keeps-along, made-all}
+use Rattle.protocol.proofs.Loops.{Each, nil, cons, each-ascending}
+use Rattle.protocol.proofs.Runs.{apply-append, Along, along-append, keeps-along, made-all}
 use Rattle.protocol.proofs.Areas.{block-length}
 use Rattle.protocol.proofs.Backing.{source-has}
-use Rattle.protocol.proofs.Holding.{Right, Holds, Steady, Restartable, steady-stops, steady-stores, steady-dirties, now-right, stays-right}
-use Rattle.protocol.proofs.Moves.{live-known, live-cut, live-done, move-cut, move-done}
+use Rattle.protocol.proofs.Holding.{Right, Holds, Steady, Restartable, steady-stops, steady-stores, now-right, stays-right}
+use Rattle.protocol.proofs.Moves.{live-cut, live-done, move-cut, move-done}
 
 module _ (n b : ℕ) (c : Contents) where
   -- ---- blocks copied from the source to disk d
@@ -88,11 +87,7 @@ module _ (n b : ℕ) (c : Contents) where
     steady = live-done n b c g l w h filled inside
 
     joined-known : joined < 2 ^ n
-    joined-known = below-pow joined n .0 (below-members joined n .1 (λ e m. go e (one-of e m)))
-      where
-        go : (e : ℕ) → (has l e ≡ true) ⊎ (e ≡ d) → e < n
-        go e (inl m) = member-below l n e (steady .agreed .known) m
-        go e (inr q) = rw q hd
+    joined-known = below-pow joined n .0 (below-with l d n (below-pow l n .1 (steady .agreed .known)) hd)
 
     filled-up : Steady n b c l (applyAll b (fill b l d) moved) × Holds n b c (applyAll b (fill b l d) moved) d
     filled-up = fill-done l d hd moved steady

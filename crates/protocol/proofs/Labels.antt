@@ -1,22 +1,22 @@
 -- The labels of a list after a store on one of them, and after a whole move. Assumes nothing.
 use mathlib.Core.Path.{_≡_, refl, sym, ap, _∙_}
 use mathlib.Core.Logic.{_≢_, _⊎_, inl, inr}
-use mathlib.Core.Bool.{Bool, true, false, _||_}
+use mathlib.Core.Bool.{true, or-true}
 use mathlib.Core.List.{List, [], _∷_}
 use Prim.Native.Nat.{ℕ, zero, suc, _≤_, _<_}
 use native.Mathlib.Omega.{arith}
-use lib.ListN.{length, getD, set, length-set}
+use lib.ListN.{length, set, length-set}
 use lib.Seq.{getD-set-same, getD-set-other}
 use lib.Dec.{eqb}
 use borrow.Author.Tests.{eq-eqb}
-use Rattle.sets.specs.Sets.{has, union, difference, singleton}
-use Rattle.sets.proofs.Tests.{and-parts}
+use Rattle.sets.specs.Sets.{has, union, singleton}
+use Rattle.sets.proofs.Tests.{and-parts, same-or-not}
 use Rattle.sets.proofs.Operations.{has-union, has-difference, has-singleton}
 use Rattle.label.specs.declared.Label.{Label}
 use Rattle.protocol.specs.Soundness.{blank, labelAt, isDirty}
 use Rattle.protocol.specs.Stores.{Disks, Store, write, copy, mark, clear, propose, commit, withDirty, apply, applyAll}
 use Rattle.protocol.specs.Lists.{proposals, commits, move, moveToLive}
-use Rattle.protocol.proofs.Loops.{same-or-not, Each, nil, cons, each-append, each-unless, each-member}
+use Rattle.protocol.proofs.Loops.{Each, nil, cons, each-append, each-unless, each-member}
 use Rattle.protocol.proofs.Runs.{keeps, made-members}
 
 -- what holds of the new label of d, and of each other label, holds of each label afterwards
@@ -53,10 +53,6 @@ module _ (b d r : ℕ) (w : Disks) (room : d < length (w .labels)) where
   pub mark-stands : isDirty (apply b (mark d r) w .labels) d r ≡ true
   unfolding apply
   mark-stands = rw (getD-set-same (w .labels) d (withDirty (labelAt (w .labels) d) (union ((labelAt (w .labels) d) .dirty) (singleton r))) blank room, has-union, has-singleton, eq-eqb r r refl) (or-true (isDirty (w .labels) d r))
-    where
-      or-true : (t : Bool) → (t || true) ≡ true
-      or-true true = refl
-      or-true false = refl
 
   pub mark-keeps : (e q : ℕ) → isDirty (w .labels) e q ≡ true → isDirty (apply b (mark d r) w .labels) e q ≡ true
   unfolding apply

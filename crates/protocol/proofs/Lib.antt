@@ -17,6 +17,7 @@ pub mod Joins
 pub mod Cleans
 pub mod Restarts
 pub mod Passing
+pub mod FitStores
 pub mod Safety
 pub mod Assembling
 pub mod Saving

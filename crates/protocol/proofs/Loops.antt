@@ -1,18 +1,14 @@
 -- What holds of loops that go up from 0, and of the lists that they build. Assumes nothing.
-use mathlib.Core.Path.{_≡_, refl, sym, ap, _∙_}
+use mathlib.Core.Path.{_≡_, refl}
 use mathlib.Core.Logic.{_≢_, _⊎_, inl, inr}
-use mathlib.Core.Bool.{Bool, true, false, not, cond, _&&_, _||_}
+use mathlib.Core.Bool.{Bool, true, false, not, cond, _||_, or-true}
 use mathlib.Core.List.{List, [], _∷_, _++_, append-nil, append-assoc}
 use Prim.Native.Nat.{ℕ, zero, suc, _+_, _≤_, _<_}
 use native.Mathlib.Omega.{arith}
-use native.Mathlib.Decide.{ℕ-discrete, decLt}
 use lib.ListN.{length, take, length-append}
 use Rattle.sets.specs.Sets.{has, members}
-use Rattle.sets.proofs.Tests.{Test, passes, fails, test, clash, and-parts}
+use Rattle.sets.proofs.Tests.{Test, passes, fails, test, clash, and-parts, or-either, implied, implies, same-or-not}
 use Rattle.protocol.specs.Loops.{ascending, forEach, allBelow, someBelow, every, some}
-
-pub same-or-not : (m n : ℕ) → (m ≡ n) ⊎ (m ≢ n)
-same-or-not m n = elim (ℕ-discrete m n) [ yes p ↦ inl p | no q ↦ inr q ]
 
 -- what holds below n and at n holds below n + 1
 pub or-last : (P : ℕ → Type 0) (n d : ℕ) → d < suc n → (d < n → P d) → P n → P d
@@ -34,22 +30,6 @@ unfolding allBelow
 all-of zero p h = refl
 all-of (suc n) p h = rw (all-of n p (λ d l. h d (omega arith)), h n (omega arith))
 
-pub or-either : (a b : Bool) → (a || b) ≡ true → (a ≡ true) ⊎ (b ≡ true)
-or-either true b h = inl refl
-or-either false b h = inr h
-
-or-right : (a b : Bool) → b ≡ true → (a || b) ≡ true
-or-right true b h = refl
-or-right false b h = h
-
-pub implied : (a b : Bool) → (a ≡ true → b ≡ true) → (not a || b) ≡ true
-implied true b h = h refl
-implied false b h = refl
-
-pub implies : (a b : Bool) → (not a || b) ≡ true → a ≡ true → b ≡ true
-implies true b h e = h
-implies false b h e = clash e refl
-
 some-at : (n : ℕ) (p : ℕ → Bool) → someBelow n p ≡ true → (d : ℕ) × (d < n) × (p d ≡ true)
 unfolding someBelow
 some-at zero p h = clash h refl
@@ -65,7 +45,7 @@ some-of zero p d l e = absurd (omega arith)
 some-of (suc n) p d l e = go (some-of n p d) (same-or-not d n)
   where
     go : (d < n → p d ≡ true → someBelow n p ≡ true) → (d ≡ n) ⊎ (d ≢ n) → (someBelow n p || p n) ≡ true
-    go ih (inl q) = or-right (someBelow n p) (p n) (rw q at e)
+    go ih (inl q) = rw (rw q at e) (or-true (someBelow n p))
     go ih (inr q) = rw (ih (omega arith) e)
 
 module _ (n s : ℕ) (p : ℕ → Bool) where

@@ -1,28 +1,26 @@
 -- A move, cut anywhere, leaves disks that a restart can take up, and whole, disks that run with the new set. Assumes nothing.
-use mathlib.Core.Path.{_≡_, refl, sym, ap, _∙_}
-use mathlib.Core.Logic.{_≢_, _⊎_, inl, inr}
+use mathlib.Core.Path.{_≡_, refl}
+use mathlib.Core.Logic.{_⊎_, inl, inr}
 use mathlib.Core.Bool.{Bool, true, false, cond}
-use mathlib.Core.List.{List, [], _∷_, _++_}
+use mathlib.Core.List.{[]}
 use Prim.Native.Nat.{ℕ, _^_, _≤_, _<_}
 use native.Mathlib.Omega.{arith}
 use lib.Dec.{eqb}
 use lib.ListN.{length, set, length-set}
 use borrow.Author.Tests.{eqb-true}
 use Rattle.sets.specs.Sets.{has}
-use Rattle.sets.proofs.Tests.{Test, passes, fails, test}
-use Rattle.sets.proofs.Bounds.{member-below, below-pow, below-members}
-use Rattle.label.specs.declared.Label.{Label}
-use Rattle.protocol.specs.Geometry.{regionOf, areaSize}
-use Rattle.protocol.specs.Soundness.{labelAt, isDirty, source}
+use Rattle.sets.proofs.Bounds.{member-below, below-pow, below-inside}
+use Rattle.protocol.specs.Geometry.{areaSize}
+use Rattle.protocol.specs.Soundness.{labelAt, source}
 use Rattle.protocol.specs.Stores.{Disks, Store, propose, commit, withCommitted, apply, applyAll}
 use Rattle.protocol.specs.Lists.{proposals, commits, move, moveToLive}
 use Rattle.protocol.specs.Book.{Contents}
 use Rattle.protocol.proofs.Loops.{Each, nil, cons, each-member}
 use Rattle.protocol.proofs.Runs.{apply-append, Along, along-append, along-nil, keeps, keeps-along}
 use Rattle.protocol.proofs.Labels.{field-set, proposed, committed}
-use Rattle.protocol.proofs.Backing.{Backed, Agreed, Recoverable, source-has}
+use Rattle.protocol.proofs.Backing.{Backed, source-has}
 use Rattle.protocol.proofs.Moving.{Proposing, begin-proposing, propose-keeps, proposing-recoverable, commit-backed, commit-shrinks, commit-keeps, committed-agree}
-use Rattle.protocol.proofs.Holding.{Right, Holds, Steady, Restartable, steady-stops}
+use Rattle.protocol.proofs.Holding.{Holds, Steady, Restartable, steady-stops}
 
 -- the stores of a move's halves
 pub data Proposal (n s : ℕ) : Store → Type 0 where
@@ -149,7 +147,7 @@ module _ (n b : ℕ) (c : Contents) where
     in-l = source-has l filled
 
     pub live-known : l < 2 ^ n
-    live-known = below-pow l n .0 (below-members l n .1 (λ d m. member-below g n d (h .agreed .known) (inside d m)))
+    live-known = below-pow l n .0 (below-inside l g n inside (below-pow g n .1 (h .agreed .known)))
 
     pub live-cut : Along b (Restartable n b c) (moveToLive n g l) w
     unfolding moveToLive

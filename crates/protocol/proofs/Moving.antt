@@ -1,20 +1,19 @@
 -- What one label store of a move does to the sets that labels back. Assumes nothing.
 use mathlib.Core.Path.{_≡_, refl, sym, ap, _∙_}
 use mathlib.Core.Logic.{_≢_, _⊎_, inl, inr}
-use mathlib.Core.Bool.{Bool, true, false}
+use mathlib.Core.Bool.{true}
 use mathlib.Core.List.{List}
-use Prim.Native.Nat.{ℕ, _^_, _≤_, _<_}
+use Prim.Native.Nat.{ℕ, _^_, _<_}
 use native.Mathlib.Omega.{arith}
-use lib.ListN.{length, set, length-set}
+use lib.ListN.{length, set}
 use lib.Seq.{getD-set-same, getD-set-other}
 use Rattle.sets.specs.Sets.{has}
-use Rattle.sets.proofs.Tests.{clash}
+use Rattle.sets.proofs.Tests.{clash, same-or-not}
 use Rattle.sets.proofs.Membership.{has-empty}
 use Rattle.label.specs.declared.Label.{Label}
 use Rattle.protocol.specs.Soundness.{blank, labelAt}
 use Rattle.protocol.specs.Stores.{withTentative, withCommitted}
 use Rattle.protocol.specs.Naming.{second, Backs}
-use Rattle.protocol.proofs.Loops.{same-or-not}
 use Rattle.protocol.proofs.Labels.{at-set}
 use Rattle.protocol.proofs.Backing.{committedAt, tentativeAt, Backed, Agreed, Recoverable}
 

@@ -1,14 +1,14 @@
 -- The function that names a restart's set gives the answer of the paper's sentences, and so does the finder. Assumes nothing.
 use mathlib.Core.Path.{_≡_, refl, sym, ap, _∙_}
 use mathlib.Core.Logic.{_≢_, _⊎_, inl, inr}
-use mathlib.Core.Bool.{Bool, true, false, cond, _&&_, _||_}
+use mathlib.Core.Bool.{Bool, true, cond, or-true}
 use mathlib.Core.List.{List, [], _∷_, _++_, append-nil}
 use Prim.Native.Nat.{ℕ, zero, suc, _^_, _<_}
 use native.Mathlib.Omega.{arith}
 use lib.Dec.{eqb, ltb}
 use borrow.Author.Tests.{ltb-true, lt-ltb, eqb-true, eq-eqb, ne-eqb}
 use Rattle.sets.specs.Sets.{has, subset}
-use Rattle.sets.proofs.Tests.{Test, passes, fails, test, clash, and-parts}
+use Rattle.sets.proofs.Tests.{Test, passes, fails, test, clash, and-parts, same-or-not, or-either}
 use Rattle.sets.proofs.Operations.{subset-members}
 use Rattle.sets.proofs.Bounds.{member-below, below-pow, below-members}
 use Rattle.label.specs.declared.Label.{Label}
@@ -16,7 +16,7 @@ use Rattle.protocol.specs.Loops.{ascending, every, some}
 use Rattle.protocol.specs.Soundness.{labelAt}
 use Rattle.protocol.specs.Naming.{Stage, first, second, third, Found, none, one, several, Backs, Proposes, Candidate, Exactly, no-set, one-set, several-sets, Names, by-first, by-second, by-third, backs, proposes, candidate, candidates, decide, named, NamedAsDefined}
 use Rattle.protocol.specs.Finder.{tried, another, among, orLater, find, FindsNamed}
-use Rattle.protocol.proofs.Loops.{same-or-not, or-either, every-at, every-of, some-member, some-is}
+use Rattle.protocol.proofs.Loops.{every-at, every-of, some-member, some-is}
 
 -- ---- the test of a candidate
 
@@ -35,10 +35,6 @@ unfolding backs
 if-backs first l x e = eq-eqb _ _ e
 if-backs second l x (inl e) = rw (eq-eqb _ _ e)
 if-backs second l x (inr e) = rw (eq-eqb _ _ e) (or-true (eqb (l .tentative) x))
-  where
-    or-true : (t : Bool) → (t || true) ≡ true
-    or-true true = refl
-    or-true false = refl
 if-backs third l x e = eq-eqb _ _ e
 
 proposes-if : (stage : Stage) (l : Label) (x : ℕ) → proposes stage l x ≡ true → Proposes stage l x

@@ -1,27 +1,25 @@
 -- The ways in which a call ends, and what is known where it is not refused. Assumes nothing.
-use mathlib.Core.Path.{_≡_, refl, sym, ap, _∙_}
+use mathlib.Core.Path.{_≡_, refl}
 use mathlib.Core.Logic.{_≢_, _⊎_, inl, inr}
-use mathlib.Core.Bool.{Bool, true, false, not, cond}
-use mathlib.Core.List.{List, [], _∷_}
+use mathlib.Core.Bool.{Bool, false, not, cond}
+use mathlib.Core.List.{List}
 use Prim.Native.Nat.{ℕ, _≤_, _<_}
 use native.Mathlib.Omega.{arith}
 use lib.Dec.{eqb, ltb, lit<}
 use lib.ListN.{length}
 use borrow.Author.Tests.{eqb-true, eqb-false, eq-eqb, ne-eqb, ltb-true, ltb-false, not-false}
-use Rattle.sets.specs.Sets.{has}
-use Rattle.sets.proofs.Tests.{Test, passes, fails, test, clash}
+use Rattle.sets.proofs.Tests.{Test, passes, fails, test, clash, same-or-not}
 use Rattle.label.specs.Refusals.{firstOf}
 use Rattle.label.proofs.Order.{none-of}
 use Rattle.protocol.specs.declared.Power.{Power}
 use Rattle.protocol.specs.declared.Power.the-variants.{Stopped, Running}
 use Rattle.protocol.specs.declared.State.{State}
 use Rattle.protocol.specs.Geometry.{blockSize, areaSize}
-use Rattle.protocol.specs.Soundness.{currentOf, isRunning, live, Sound, sound}
+use Rattle.protocol.specs.Soundness.{isRunning, live, Sound, sound}
 use Rattle.protocol.specs.Stores.{Store, applyAll, made}
 use Rattle.protocol.specs.Naming.{Found, none, one, several}
 use Rattle.protocol.specs.Outcomes.{Outcome, outcome, refusedOr, disksOf, ended, carryOut}
-use Rattle.protocol.specs.Calls.{isNone, isSeveral, foundBy, unsound, areaUnfit, blockRefusals, joinRefusals, cleanRefusals, restartRefusals, plugRefusals}
-use Rattle.protocol.proofs.Loops.{same-or-not}
+use Rattle.protocol.specs.Calls.{isNone, isSeveral, foundBy, blockRefusals, joinRefusals, cleanRefusals, restartRefusals, plugRefusals}
 use Rattle.protocol.proofs.Soundness.{test-agrees}
 
 -- ---- how a call ends

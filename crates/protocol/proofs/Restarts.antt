@@ -1,30 +1,29 @@
 -- A restart, cut anywhere, leaves disks that a restart can take up, and whole, disks that run with the set it named. Assumes nothing.
-use mathlib.Core.Path.{_≡_, refl, sym, ap, _∙_}
+use mathlib.Core.Path.{_≡_, refl, _∙_}
 use mathlib.Core.Logic.{_≢_, _⊎_, inl, inr}
-use mathlib.Core.Bool.{Bool, true, false, not, cond, _&&_}
+use mathlib.Core.Bool.{Bool, true, false, not, cond, and-true}
 use mathlib.Core.List.{List, [], _∷_, _++_}
-use Prim.Native.Nat.{ℕ, zero, suc, _+_, _*_, _/_, _%_, _^_, _≤_, _<_}
+use Prim.Native.Nat.{ℕ, suc, _+_, _*_, _%_, _<_}
 use native.Mathlib.Omega.{arith}
-use lib.Dec.{eqb, ltb}
-use lib.ListN.{length}
+use lib.Dec.{ltb}
 use borrow.Author.Tests.{ltb-true, lt-ltb, ne-eqb}
 use Rattle.sets.specs.Sets.{has, difference, singleton}
-use Rattle.sets.proofs.Tests.{clash, and-parts}
+use Rattle.sets.proofs.Tests.{clash, same-or-not}
 use Rattle.sets.proofs.Operations.{has-difference, has-singleton}
 use Rattle.sets.proofs.Bounds.{member-below}
 use Rattle.label.specs.declared.Label.{Label}
 use Rattle.protocol.specs.Geometry.{regionSize, regionOf, regions}
-use Rattle.protocol.specs.Loops.{ascending, forEach, some}
+use Rattle.protocol.specs.Loops.{forEach, some}
 use Rattle.protocol.specs.Soundness.{labelAt, isDirty, source}
 use Rattle.protocol.specs.Stores.{Disks, Store, copy, clear, apply, applyAll}
 use Rattle.protocol.specs.Lists.{commits, forBlocks, copies, clears, mend, mends}
 use Rattle.protocol.specs.Book.{Contents}
-use Rattle.protocol.proofs.Loops.{same-or-not, some-not, Each, nil, cons, each-ascending, each-if, each-member}
+use Rattle.protocol.proofs.Loops.{some-not, Each, nil, cons, each-ascending, each-if, each-member}
 use Rattle.protocol.proofs.Runs.{apply-append, Along, along-append, along-nil, keeps, keeps-along, loop, loop-along, made-all, made-members}
-use Rattle.protocol.proofs.Areas.{block-length}
+use Rattle.protocol.proofs.Areas.{region-known, block-length}
 use Rattle.protocol.proofs.Labels.{clear-keeps}
 use Rattle.protocol.proofs.Backing.{Backed, source-has}
-use Rattle.protocol.proofs.Holding.{Right, Holds, Steady, Restartable, now-right, stays-right, restartable-stores, restartable-dirties, backed-still}
+use Rattle.protocol.proofs.Holding.{Right, Steady, Restartable, now-right, stays-right, restartable-stores, restartable-dirties, backed-still}
 use Rattle.protocol.proofs.Moves.{Committing, commits-cut, commits-done}
 
 module _ (n b : ℕ) (c : Contents) (s : ℕ) (labels : List Label) where
@@ -173,10 +172,6 @@ module _ (n b : ℕ) (c : Contents) (s : ℕ) (labels : List Label) where
       last : (k : ℕ) → regionOf k ≡ r → regionOf k < suc r
       last k e = omega arith
 
-      and-true : (t : Bool) → (t && true) ≡ t
-      and-true true = refl
-      and-true false = refl
-
       go : (k : ℕ) → k < b → (regionOf k ≡ r) ⊎ (regionOf k ≢ r) → (has (difference map (singleton r)) (regionOf k) ≡ has map (regionOf k)) ⊎ Right n b c w d k
       go k hk (inl e) = inr (h .right d m k hk (last k e))
       go k hk (inr ne) = inl (has-difference map (singleton r) (regionOf k) ∙ rw (has-singleton r (regionOf k), ne-eqb (regionOf k) r ne) (and-true (has map (regionOf k))))
@@ -230,15 +225,11 @@ module _ (n b : ℕ) (c : Contents) (s : ℕ) (labels : List Label) where
     unfolding mends
     mends-done = loop b step (regions b) Mended (λ r l v g. turn r v g (some n s (λ d. isDirty labels d r)) refl .0) (regions b) (omega arith) w begin
 
-    every-region : (k : ℕ) → k < b → regionOf k < regions b
-    unfolding regionOf regions
-    every-region k hk = omega arith
-
     ready : Committing n b c s (applyAll b (mends n b labels s) w)
     ready = record {
       restartable = mends-done .restartable;
       backed = mends-done .backed;
-      holds = λ d m k hk. mends-done .right d m k hk (every-region k hk);
+      holds = λ d m k hk. mends-done .right d m k hk (region-known b k hk);
     }
 
     pub restart-cut : Along b (Restartable n b c) (mends n b labels s ++ commits n s) w

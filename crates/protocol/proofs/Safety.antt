@@ -1,15 +1,13 @@
 -- What a cabinet holds against the book between calls, and that each call keeps it: one lemma a call. Assumes nothing.
-use mathlib.Core.Path.{_≡_, refl, sym, ap, _∙_}
-use mathlib.Core.Logic.{_≢_, _⊎_, inl, inr}
-use mathlib.Core.Bool.{Bool, true, false, cond, _&&_}
-use mathlib.Core.List.{List, [], _∷_, _++_}
-use Prim.Native.Nat.{ℕ, _^_, _≤_, _<_}
-use native.Mathlib.Omega.{arith}
-use lib.Dec.{eqb}
-use lib.ListN.{length, take}
+use mathlib.Core.Path.{_≡_, refl, sym, _∙_}
+use mathlib.Core.Logic.{_≢_}
+use mathlib.Core.Bool.{true}
+use mathlib.Core.List.{List}
+use Prim.Native.Nat.{ℕ}
+use lib.ListN.{length}
 use lib.Seq.{take-all}
 use borrow.Author.Tests.{eq-eqb, ne-eqb}
-use Rattle.sets.specs.Sets.{has, intersection, union, singleton}
+use Rattle.sets.specs.Sets.{has, union, singleton}
 use Rattle.sets.proofs.Tests.{and-parts}
 use Rattle.sets.proofs.Operations.{has-intersection}
 use Rattle.sets.proofs.Bounds.{below-pow}
@@ -20,18 +18,17 @@ use Rattle.protocol.specs.declared.State.{State}
 use Rattle.protocol.specs.declared.Call.{Call}
 use Rattle.protocol.specs.declared.Call.the-variants.{Read, Write, Join, Clean, Restart, Detach, Attach, PowerOff}
 use Rattle.protocol.specs.Geometry.{areaSize}
-use Rattle.protocol.specs.Soundness.{currentOf, live, Sound}
+use Rattle.protocol.specs.Soundness.{currentOf, live}
 use Rattle.protocol.specs.Stores.{Disks, Store, applyAll}
 use Rattle.protocol.specs.Lists.{writeList, joinList, cleanList, restartList}
 use Rattle.protocol.specs.Naming.{Found, none, one, several, Names}
-use Rattle.protocol.specs.Outcomes.{Outcome, outcome, refusedOr, withDisks, disksOf, carryOut}
-use Rattle.protocol.specs.Calls.{theSet, foundBy, blockRefusals, joinRefusals, cleanRefusals, restartRefusals, plugRefusals, unsound, readOutcome, writeOutcome, joinOutcome, cleanOutcome, restartOutcome, detachOutcome, attachOutcome, powerOffOutcome}
-use Rattle.protocol.specs.History.{Step, Cabinet, perform, outcomeOf, cabinetOf}
-use Rattle.protocol.specs.Book.{Contents, replaced, counts, carriedBy, entered}
-use Rattle.protocol.proofs.Loops.{same-or-not}
+use Rattle.protocol.specs.Outcomes.{Outcome, withDisks, disksOf, carryOut}
+use Rattle.protocol.specs.Calls.{theSet, foundBy, blockRefusals, joinRefusals, cleanRefusals, restartRefusals, readOutcome, writeOutcome, joinOutcome, cleanOutcome, restartOutcome, detachOutcome, attachOutcome, powerOffOutcome}
+use Rattle.protocol.specs.History.{Cabinet, perform, cabinetOf}
+use Rattle.protocol.specs.Book.{Contents, counts, carriedBy, entered}
 use Rattle.protocol.proofs.Runs.{Along}
 use Rattle.protocol.proofs.Naming.{named-as-defined}
-use Rattle.protocol.proofs.Backing.{Backed, found-backed}
+use Rattle.protocol.proofs.Backing.{found-backed}
 use Rattle.protocol.proofs.Holding.{Steady, Restartable, steady-stops}
 use Rattle.protocol.proofs.Moves.{live-known}
 use Rattle.protocol.proofs.Writes.{write-cut, write-done, write-counts}

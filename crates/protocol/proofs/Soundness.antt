@@ -1,7 +1,7 @@
 -- The test of soundness passes exactly where every part of soundness holds. Assumes nothing.
-use mathlib.Core.Path.{_≡_, refl, sym, ap, _∙_}
+use mathlib.Core.Path.{_≡_, refl}
 use mathlib.Core.Logic.{_⊎_, inl, inr, _↔_}
-use mathlib.Core.Bool.{Bool, true, false, not, _&&_, _||_}
+use mathlib.Core.Bool.{Bool, true, not, _&&_, _||_, or-true}
 use mathlib.Core.List.{List}
 use Prim.Native.Nat.{ℕ, _≤_, _<_}
 use native.Mathlib.Omega.{arith}
@@ -9,15 +9,14 @@ use native.Mathlib.Decide.{decLt}
 use lib.Dec.{eqb, leb, ltb}
 use borrow.Author.Tests.{leb-true, le-leb, eqb-true, eq-eqb, ltb-true, lt-ltb, le-ltb}
 use Rattle.sets.specs.Sets.{has, below}
-use Rattle.sets.proofs.Tests.{clash, and-parts}
+use Rattle.sets.proofs.Tests.{and-parts, or-either, implied, implies}
 use Rattle.label.specs.declared.Label.{Label}
 use Rattle.protocol.specs.declared.Power.{Power}
 use Rattle.protocol.specs.declared.Power.the-variants.{Stopped, Running}
-use Rattle.protocol.specs.declared.State.{State}
 use Rattle.protocol.specs.Geometry.{mostDisks, mostBlocks, regions}
 use Rattle.protocol.specs.Loops.{allBelow}
-use Rattle.protocol.specs.Soundness.{blank, labelAt, InRange, FitSet, FitLabel, FitLabels, FitCurrent, FitPower, Sound, inRange, fitSet, fitLabel, isBlank, fitLabels, fitMember, fitPower, sound, TestAgrees}
-use Rattle.protocol.proofs.Loops.{all-at, all-of, or-either, implied, implies}
+use Rattle.protocol.specs.Soundness.{blank, labelAt, InRange, FitSet, FitLabel, FitLabels, FitPower, inRange, fitSet, fitLabel, isBlank, fitLabels, fitMember, fitPower, sound, TestAgrees}
+use Rattle.protocol.proofs.Loops.{all-at, all-of}
 
 in-range : (n b : ℕ) → (inRange n b ≡ true) ↔ InRange n b
 unfolding inRange
@@ -41,13 +40,9 @@ fit-set n d s = (
     own (inl e) = inl (eqb-true s 0 e)
     own (inr e) = inr e
 
-    or-right : (a : Bool) → (a || true) ≡ true
-    or-right true = refl
-    or-right false = refl
-
     back : (s ≡ 0) ⊎ (has s d ≡ true) → (eqb s 0 || has s d) ≡ true
     back (inl e) = rw (eq-eqb s 0 e)
-    back (inr e) = rw e (or-right (eqb s 0))
+    back (inr e) = rw e (or-true (eqb s 0))
 
 fit-label : (n b d : ℕ) (l : Label) → (fitLabel n b d l ≡ true) ↔ FitLabel n b d l
 unfolding fitLabel

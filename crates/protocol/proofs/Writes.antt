@@ -1,28 +1,28 @@
 -- A write, cut anywhere, leaves disks that a restart can take up: with the old contents of the book until the store on the source of its set, with the new
 -- ones from then on. Whole, it leaves disks that run with the new contents. Assumes nothing.
-use mathlib.Core.Path.{_≡_, refl, sym, ap, _∙_}
+use mathlib.Core.Path.{_≡_, refl, _∙_}
 use mathlib.Core.Logic.{_≢_, _⊎_, inl, inr}
-use mathlib.Core.Bool.{Bool, true, false, cond, _||_}
+use mathlib.Core.Bool.{Bool, true, false, cond}
 use mathlib.Core.List.{List, [], _∷_, _++_, append-nil}
 use Prim.Native.Nat.{ℕ, zero, suc, _^_, _≤_, _<_}
 use native.Mathlib.Omega.{arith}
-use lib.Dec.{eqb}
-use lib.ListN.{length, take, set, length-set}
+use lib.ListN.{length, take, set}
 use borrow.Author.Tests.{eq-eqb, ne-eqb}
+use Rattle.sets.proofs.Tests.{same-or-not}
 use Rattle.sets.specs.Sets.{has}
 use Rattle.sets.proofs.Bounds.{member-below}
 use Rattle.label.specs.declared.Label.{Label}
-use Rattle.protocol.specs.Geometry.{blockSize, regionOf, areaSize, block, withBlock}
+use Rattle.protocol.specs.Geometry.{blockSize, regionOf, areaSize, block}
 use Rattle.protocol.specs.Loops.{forEach}
-use Rattle.protocol.specs.Soundness.{labelAt, isDirty, source}
+use Rattle.protocol.specs.Soundness.{isDirty, source}
 use Rattle.protocol.specs.Stores.{Disks, Store, write, mark, apply, applyAll}
 use Rattle.protocol.specs.Lists.{moveToLive, marks, preparations, blockStores}
 use Rattle.protocol.specs.Book.{Contents, replaced, include}
-use Rattle.protocol.proofs.Loops.{same-or-not, Each, nil, cons, each-unless, each-member}
-use Rattle.protocol.proofs.Runs.{Cut, in-first, in-second, cut, apply-append, Along, along-append, keeps, keeps-along, made-all, made-members}
-use Rattle.protocol.proofs.Areas.{stored-size, stored-other}
+use Rattle.protocol.proofs.Loops.{Each, nil, cons, each-unless, each-member}
+use Rattle.protocol.proofs.Runs.{Cut, in-first, in-second, cut, apply-append, Along, along-append, keeps-along, made-all, made-members}
+use Rattle.protocol.proofs.Areas.{stored-size}
 use Rattle.protocol.proofs.Labels.{mark-stands, mark-keeps, move-dirty}
-use Rattle.protocol.proofs.Backing.{Backed, Agreed, source-has, agreed-recoverable}
+use Rattle.protocol.proofs.Backing.{Agreed, source-has, agreed-recoverable}
 use Rattle.protocol.proofs.Holding.{Right, Holds, Steady, Restartable, steady-stops, steady-dirties, now-right, stays-right}
 use Rattle.protocol.proofs.Moves.{live-known, live-cut, live-done}
 use Rattle.protocol.proofs.Counting.{include-append, early, prepared, block-stores-begin, source-store}

@@ -6,10 +6,8 @@ use Prim.Native.Nat.{ℕ, _-_}
 use lib.Dec.{eqb, ltb}
 use lib.ListN.{length, replicate}
 use Rattle.sets.specs.Sets.{has, union, difference, singleton, all}
-use Rattle.label.specs.declared.Label.{Label}
 use Rattle.label.specs.Form.{narrow}
 use Rattle.label.specs.Refusals.{outside}
-use Rattle.protocol.specs.declared.Power.{Power}
 use Rattle.protocol.specs.declared.Power.the-variants.{Stopped, Running}
 use Rattle.protocol.specs.declared.State.{State}
 use Rattle.protocol.specs.Geometry.{mostDisks, mostBlocks, blockSize, areaSize, block}

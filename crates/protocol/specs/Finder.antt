@@ -1,7 +1,7 @@
 -- A way to find the set that a restart names which tries few sets: every candidate of a stage is one that some disk's own label has. It stands in
 -- no promise.
 use mathlib.Core.Path.{_≡_}
-use mathlib.Core.Bool.{Bool, cond}
+use mathlib.Core.Bool.{cond}
 use mathlib.Core.List.{List}
 use Prim.Native.Nat.{ℕ, zero, suc, _^_, _<_}
 use lib.Dec.{eqb}

@@ -1,7 +1,7 @@
 -- A set that names only disks below n. Assumes nothing.
 use mathlib.Core.Path.{_≡_, sym, _∙_}
-use mathlib.Core.Logic.{_↔_}
-use mathlib.Core.Bool.{true}
+use mathlib.Core.Logic.{_↔_, _⊎_, inl, inr}
+use mathlib.Core.Bool.{true, not}
 use Prim.Native.Nat.{ℕ, _+_, _/_, _^_, _<_}
 use native.Mathlib.Nat.{div-lt-iff-lt-mul, div-eq-of-lt, one-mul}
 use native.Mathlib.Decide.{decLt}
@@ -9,9 +9,10 @@ use native.Mathlib.Omega.{arith}
 use lib.Dec.{eqb, lit<}
 use lib.Pow.{pow-pos}
 use borrow.Author.Tests.{ltb-true, lt-ltb, eqb-true, eq-eqb}
-use Rattle.sets.specs.Sets.{has, below}
-use Rattle.sets.proofs.Tests.{Test, passes, fails, test, same-test, clash}
+use Rattle.sets.specs.Sets.{has, union, intersection, difference, singleton, below}
+use Rattle.sets.proofs.Tests.{Test, passes, fails, test, same-test, clash, and-parts, or-either}
 use Rattle.sets.proofs.Membership.{has-shift, has-above, has-empty, same-members}
+use Rattle.sets.proofs.Operations.{has-union, has-intersection, has-difference, has-singleton}
 
 pub below-pow : (s n : ℕ) → (below s n ≡ true) ↔ (s < 2 ^ n)
 unfolding below
@@ -46,3 +47,25 @@ below-members s n = (λ e d. member-below s n d (below-pow s n .0 e), λ f. belo
         go : Test (has s (n + d)) → has (s / 2 ^ n) d ≡ has 0 d
         go (passes e) = absurd (omega (arith, f (n + d) e))
         go (fails e) = has-shift s n d ∙ e ∙ sym (has-empty d)
+
+-- ---- results that stay below n
+
+pub below-empty : (n : ℕ) → below 0 n ≡ true
+below-empty n = below-pow 0 n .1 (pow-pos n)
+
+pub below-inside : (a b n : ℕ) → ((d : ℕ) → has a d ≡ true → has b d ≡ true) → below b n ≡ true → below a n ≡ true
+below-inside a b n inside h = below-members a n .1 (λ d m. below-members b n .0 h d (inside d m))
+
+pub below-intersection : (a b n : ℕ) → below b n ≡ true → below (intersection a b) n ≡ true
+below-intersection a b n = below-inside (intersection a b) b n (λ d m. and-parts (has a d) (has b d) (sym (has-intersection a b d) ∙ m) .1)
+
+pub below-difference : (a b n : ℕ) → below a n ≡ true → below (difference a b) n ≡ true
+below-difference a b n = below-inside (difference a b) a n (λ d m. and-parts (has a d) (not (has b d)) (sym (has-difference a b d) ∙ m) .0)
+
+-- with one more disk below n
+pub below-with : (a d n : ℕ) → below a n ≡ true → d < n → below (union a (singleton d)) n ≡ true
+below-with a d n h l = below-members (union a (singleton d)) n .1 (λ e m. go e (or-either (has a e) (eqb e d) (sym (has-union a (singleton d) e ∙ rw (has-singleton d e)) ∙ m)))
+  where
+    go : (e : ℕ) → (has a e ≡ true) ⊎ (eqb e d ≡ true) → e < n
+    go e (inl m) = below-members a n .0 h e m
+    go e (inr q) = rw (eqb-true e d q) l
