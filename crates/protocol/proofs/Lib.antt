@@ -22,6 +22,7 @@ pub mod Safety
 pub mod Assembling
 pub mod Saving
 pub mod Formatting
+pub mod SoundCalls
 pub mod Histories
 pub mod Demand3
 pub mod HandCases
