@@ -17,5 +17,6 @@ use Rattle.protocol.specs.HandCases.{labelled, stoppedWith, restarted, H
 pub hand-cases : HandCasesHold
 unfolding has intersection difference singleton subset below lowest mapByte placeByte littleEndian encode labelLength value fieldAt fieldsOf firstOf outside wrongSet wrongSets emptyField readRefusals readRefusal judged reading regionOf regions areaSize ascending forEach allBelow someBelow every some source inRange fitSet fitLabel isBlank fitLabels fitMember fitPower sound apply applyAll commits mends restartList backs proposes candidate candidates decide named refusedOr carryOut zeroArea foundBy restartRefusals restartOutcome labelled stoppedWith restarted
 hand-cases = (
-  (refl, refl), ((refl, refl), ((refl, refl), ((refl, refl), ((refl, refl), ((refl, refl), ((refl, refl), ((refl, refl), ((refl, refl), ((refl, refl), ((refl, refl), ((refl, refl), tt)))))))))))
+  (refl, refl),
+  ((refl, refl), ((refl, refl), ((refl, refl), ((refl, refl), ((refl, refl), ((refl, refl), ((refl, refl), ((refl, refl), ((refl, refl), ((refl, refl), ((refl, refl), tt))))))))))),
 )

@@ -24,5 +24,7 @@ pub mod Saving
 pub mod Formatting
 pub mod SoundCalls
 pub mod Histories
+pub mod RestartCalls
+pub mod Invariant
 pub mod Demand3
 pub mod HandCases

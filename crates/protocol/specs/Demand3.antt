@@ -28,11 +28,11 @@ abbrev pub program : ℕ → ℕ → List ℕ → List Step → Cabinet
 program n b lent calls = ran calls (cabinetOf (formatOutcome lent [] n b))
 
 -- .. when it is given a call of the list, and what the call yields
-abbrev pub at : (n b : ℕ) (lent : List ℕ) {calls : List Step} → CallIn calls → Cabinet
-at n b lent c = program n b lent (c .before)
+abbrev pub given : (n b : ℕ) (lent : List ℕ) {calls : List Step} → CallIn calls → Cabinet
+given n b lent c = program n b lent (c .before)
 
 abbrev pub result : (n b : ℕ) (lent : List ℕ) {calls : List Step} → CallIn calls → Outcome
-result n b lent c = outcomeOf (c .this) (at n b lent c)
+result n b lent c = outcomeOf (c .this) (given n b lent c)
 
 -- what the book holds after it
 abbrev pub book : (n b : ℕ) {calls : List Step} → CallIn calls → ℕ → List ℕ
@@ -48,9 +48,9 @@ pub record Demand3 (n b : ℕ) (lent : List ℕ) (calls : List Step) : Type 0 wh
       × ((d k : ℕ) → has g d ≡ true → k < b → block b (result n b lent c .area) d k ≡ book n b c k)
   -- "Each one of a stopped cabinet with all n disks in R finds a set, and gives 0 when its supply is at least the length of its list of stores."
   pub finds : (c : CallIn calls) (budget : ℕ) → c .this .call ≡ Restart budget
-      → at n b lent c .state .power ≡ Stopped → at n b lent c .state .online ≡ all n
-      → (g : ℕ) × (foundBy (at n b lent c .state) ≡ one g)
-      × (length (restartList (at n b lent c .state) g) ≤ budget → result n b lent c .answer .refusal ≡ 0)
+      → given n b lent c .state .power ≡ Stopped → given n b lent c .state .online ≡ all n
+      → (g : ℕ) × (foundBy (given n b lent c .state) ≡ one g)
+      × (length (restartList (given n b lent c .state) g) ≤ budget → result n b lent c .answer .refusal ≡ 0)
 
 -- for every n, b and list of calls
 abbrev pub Demand3Holds : Type 0
