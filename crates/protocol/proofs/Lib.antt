@@ -28,3 +28,6 @@ pub mod RestartCalls
 pub mod Invariant
 pub mod Demand3
 pub mod HandCases
+pub mod ReadCalls
+pub mod WriteBound
+pub mod WritesCount
