@@ -31,3 +31,4 @@ pub mod HandCases
 pub mod ReadCalls
 pub mod WriteBound
 pub mod WritesCount
+pub mod SoundLists
