@@ -15,7 +15,7 @@ use Rattle.sets.proofs.LowestMember.{lowest-has}
 use Rattle.label.specs.declared.Label.{Label}
 use Rattle.protocol.specs.Loops.{some}
 use Rattle.protocol.specs.Soundness.{labelAt, source}
-use Rattle.protocol.specs.Naming.{Stage, first, second, third, Found, none, one, several, Backs, Candidate, Exactly, no-set, one-set, several-sets, Names, by-first, by-second, by-third}
+use Rattle.protocol.specs.Naming.{Stage, first, second, third, Found, none, one, several, Backs, Candidate, Exactly, no-set, one-set, several-sets, Decides, here, further, nowhere, Names}
 use Rattle.protocol.proofs.Loops.{some-member, some-not}
 
 abbrev pub committedAt : List Label → ℕ → ℕ
@@ -103,10 +103,9 @@ module _ {n : ℕ} {labels : List Label} (rec : Recoverable n labels) where
   one-at-most stage (several-sets {x} {y} p q ne) = ne (unique stage x y p q)
 
   -- so a restart never finds several sets
-  pub never-several : {online : ℕ} → Names online labels several → ⊥
-  never-several (by-first f e) = one-at-most first e
-  never-several (by-second f e1 e2) = one-at-most second e2
-  never-several (by-third e1 e2 e3) = one-at-most third e3
+  pub never-several : {online : ℕ} {stages : List Stage} → Decides online labels stages several → ⊥
+  never-several (here {stage} f e) = one-at-most stage e
+  never-several (further e h) = never-several h
 
   -- a backed set is a candidate of some stage where all disks are in reach
   no-candidate : Exactly (Candidate second (all n) labels) none → Exactly (Candidate third (all n) labels) none → (x : ℕ) → Backed labels x → ⊥
@@ -131,14 +130,18 @@ module _ {n : ℕ} {labels : List Label} (rec : Recoverable n labels) where
 
   -- with all disks in reach it finds one
   pub finds-one : (f : Found) → Names (all n) labels f → (x : ℕ) × (f ≡ one x)
-  finds-one none (by-first f e) = absurd (f refl)
-  finds-one none (by-second f e1 e2) = absurd (f refl)
-  finds-one none (by-third e1 e2 e3) = absurd (no-candidate e2 e3 (rec .some-set .0) (rec .some-set .1))
+  finds-one none (here f e) = absurd (f refl)
+  finds-one none (further e1 (here f e)) = absurd (f refl)
+  finds-one none (further e1 (further e2 (here f e))) = absurd (f refl)
+  finds-one none (further e1 (further e2 (further e3 nowhere))) = absurd (no-candidate e2 e3 (rec .some-set .0) (rec .some-set .1))
   finds-one (one x) h = (x, refl)
   finds-one several h = absurd (never-several h)
 
--- and what it finds is backed
+-- what it finds is a candidate of some stage, and backed
+pub found-candidate : {online : ℕ} {labels : List Label} {stages : List Stage} {x : ℕ} → Decides online labels stages (one x)
+    → (stage : Stage) × Candidate stage online labels x
+found-candidate (here {stage} f (one-set p u)) = (stage, p)
+found-candidate (further e h) = found-candidate h
+
 pub found-backed : {online : ℕ} {labels : List Label} {x : ℕ} → Names online labels (one x) → Backed labels x
-found-backed (by-first f (one-set p u)) = candidate-backed first p
-found-backed (by-second f e1 (one-set p u)) = candidate-backed second p
-found-backed (by-third e1 e2 (one-set p u)) = candidate-backed third p
+found-backed h = let (stage, c) = found-candidate h in candidate-backed stage c

@@ -14,8 +14,8 @@ use Rattle.sets.proofs.Bounds.{member-below, below-pow, below-members}
 use Rattle.label.specs.declared.Label.{Label}
 use Rattle.protocol.specs.Loops.{ascending, every, some}
 use Rattle.protocol.specs.Soundness.{labelAt}
-use Rattle.protocol.specs.Naming.{Stage, first, second, third, Found, none, one, several, Backs, Proposes, Candidate, Exactly, no-set, one-set, several-sets, Names, by-first, by-second, by-third, backs, proposes, candidate, candidates, decide, named, NamedAsDefined}
-use Rattle.protocol.specs.Finder.{tried, another, among, orLater, find, FindsNamed}
+use Rattle.protocol.specs.Naming.{Stage, first, second, third, Found, none, one, several, Backs, Proposes, Candidate, Exactly, no-set, one-set, several-sets, Decides, here, further, nowhere, stages, backs, proposes, candidate, candidates, count, orElse, decide, named, NamedAsDefined}
+use Rattle.protocol.specs.Finder.{tried, another, among, find, FindsNamed}
 use Rattle.protocol.proofs.Loops.{every-at, every-of, some-member, some-is}
 
 -- ---- the test of a candidate
@@ -100,12 +100,6 @@ exactly-same (several-sets p q ne) (no-set k) = absurd (k _ p)
 exactly-same (several-sets p q ne) (one-set r v) = absurd (ne (v _ p ∙ sym (v _ q)))
 exactly-same (several-sets p q ne) (several-sets r t me) = refl
 
--- what a list of different sets amounts to
-abbrev count : List ℕ → Found
-count [] = none
-count (x ∷ []) = one x
-count (x ∷ y ∷ more) = several
-
 -- the sets below a bound that pass, listed
 module _ (p : ℕ → Bool) where
   abbrev Below : ℕ → ℕ → Type 0
@@ -122,7 +116,7 @@ module _ (p : ℕ → Bool) where
       go (inr q) = inr (omega arith, e)
 
   listed : (i : ℕ) → Exactly (Below i) (count (ascending i (λ x. cond (p x) (x ∷ []) [])))
-  unfolding ascending
+  unfolding ascending count
   listed zero = no-set (λ x (l, e). omega arith)
   listed (suc i) = go (ascending i (λ x. cond (p x) (x ∷ []) [])) (listed i) (test (p i))
     where
@@ -146,41 +140,40 @@ module _ (n online : ℕ) (labels : List Label) (known : online < 2 ^ n) where
       exactly-map (λ x b. candidate-if stage n online labels known x (b .1))
       (λ x c. (in-list stage x c, if-candidate stage n online labels known x c)) (listed (candidate stage n online labels) (2 ^ n))
 
-  one-not-none : (x : ℕ) → one x ≢ none
-  one-not-none x e = absurd (let z : _≡_ {A = ℕ} 0 1 = cc in omega arith)
+-- ---- the first stage that decides
 
-  several-not-none : several ≢ none
-  several-not-none e = absurd (let z : _≡_ {A = ℕ} 0 1 = cc in omega arith)
+one-not-none : (x : ℕ) → one x ≢ none
+one-not-none x e = absurd (let z : _≡_ {A = ℕ} 0 1 = cc in omega arith)
 
-  named-answers : Names online labels (named n online labels)
-  unfolding named decide
-  named-answers = go (candidates first n online labels) (candidates second n online labels) (candidates third n online labels) (stage-right first) (stage-right second) (stage-right third)
+several-not-none : several ≢ none
+several-not-none e = absurd (let z : _≡_ {A = ℕ} 0 1 = cc in omega arith)
+
+-- what finds exactly the candidates of each stage gives the answer of these stages ..
+module _ (online : ℕ) (labels : List Label) (found : Stage → Found) (right : (stage : Stage) → Exactly (Candidate stage online labels) (found stage)) where
+  decided : (stages : List Stage) → Decides online labels stages (decide found stages)
+  unfolding decide orElse
+  decided [] = nowhere
+  decided (stage ∷ later) = go (found stage) (right stage) (decided later)
     where
-      go : (xs ys zs : List ℕ) → Exactly (Candidate first online labels) (count xs) → Exactly (Candidate second online labels) (count ys)
-          → Exactly (Candidate third online labels) (count zs) → Names online labels (decide (xs ∷ ys ∷ zs ∷ []))
-      go (x ∷ []) ys zs p q r = by-first (one-not-none x) p
-      go (x ∷ y ∷ xs) ys zs p q r = by-first several-not-none p
-      go [] (x ∷ []) zs p q r = by-second (one-not-none x) p q
-      go [] (x ∷ y ∷ ys) zs p q r = by-second several-not-none p q
-      go [] [] [] p q r = by-third p q r
-      go [] [] (x ∷ []) p q r = by-third p q r
-      go [] [] (x ∷ y ∷ zs) p q r = by-third p q r
+      go : (f : Found) → Exactly (Candidate stage online labels) f → Decides online labels later (decide found later)
+          → Decides online labels (stage ∷ later) (orElse f (decide found later))
+      go none e ih = further e ih
+      go (one x) e ih = here (one-not-none x) e
+      go several e ih = here several-not-none e
 
-names-same : {online : ℕ} {labels : List Label} {f g : Found} → Names online labels f → Names online labels g → f ≡ g
-names-same (by-first a p) (by-first b q) = exactly-same p q
-names-same (by-first a p) (by-second b q r) = absurd (a (exactly-same p q))
-names-same (by-first a p) (by-third q r t) = absurd (a (exactly-same p q))
-names-same (by-second a p q) (by-first b r) = absurd (b (exactly-same r p))
-names-same (by-second a p q) (by-second b r t) = exactly-same q t
-names-same (by-second a p q) (by-third r t u) = absurd (a (exactly-same q t))
-names-same (by-third p q r) (by-first b t) = absurd (b (exactly-same t p))
-names-same (by-third p q r) (by-second b t u) = absurd (b (exactly-same u q))
-names-same (by-third p q r) (by-third t u v) = exactly-same r v
+-- .. and they have no other
+decides-same : {online : ℕ} {labels : List Label} {stages : List Stage} {f g : Found} → Decides online labels stages f → Decides online labels stages g → f ≡ g
+decides-same (here a p) (here b q) = exactly-same p q
+decides-same (here a p) (further q h) = absurd (a (exactly-same p q))
+decides-same (further p h) (here b q) = absurd (b (exactly-same q p))
+decides-same (further p h) (further q k) = decides-same h k
+decides-same nowhere nowhere = refl
 
 pub named-as-defined : (n online : ℕ) (labels : List Label) → online < 2 ^ n → NamedAsDefined n online labels
+unfolding named
 named-as-defined n online labels known =
-    let right = named-answers n online labels known in
-    record { answers = right; only = λ f h. names-same h right }
+    let right = decided online labels (λ stage. count (candidates stage n online labels)) (stage-right n online labels known) stages in
+    record { answers = right; only = λ f h. decides-same h right }
 
 -- ---- the finder
 
@@ -237,15 +230,7 @@ module _ (n online : ℕ) (labels : List Label) (known : online < 2 ^ n) (stage 
   among-right = exactly-map (λ x (j, l, e, c). candidate-if stage n online labels known x c) is-tried (among-tried n)
 
 pub finds-named : FindsNamed
-unfolding find orLater
+unfolding find
 finds-named n online labels known =
     named-as-defined n online labels known .only _
-    (go (among first n online labels n) (among second n online labels n) (among third n online labels n) (among-right n online labels known first) (among-right n online labels known second) (among-right n online labels known third))
-  where
-    go : (f g h : Found) → Exactly (Candidate first online labels) f → Exactly (Candidate second online labels) g → Exactly (Candidate third online labels) h
-        → Names online labels (orLater f (orLater g h))
-    go (one x) g h p q r = by-first (one-not-none n online labels known x) p
-    go several g h p q r = by-first (several-not-none n online labels known) p
-    go none (one x) h p q r = by-second (one-not-none n online labels known x) p q
-    go none several h p q r = by-second (several-not-none n online labels known) p q
-    go none none h p q r = by-third p q r
+    (decided online labels (λ stage. among stage n online labels n) (among-right n online labels known) stages)

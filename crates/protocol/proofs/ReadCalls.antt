@@ -1,24 +1,20 @@
 -- What the gate relies on: a read that gives 0 yields the book's block. Assumes nothing.
 use mathlib.Core.Path.{_≡_, refl, sym, ap, _∙_, subst}
-use mathlib.Core.Logic.{_≢_}
-use mathlib.Core.Bool.{Bool, true}
-use mathlib.Core.List.{List, []}
+use mathlib.Core.Bool.{true}
+use mathlib.Core.List.{List}
 use Prim.Native.Nat.{ℕ, _<_}
-use Rattle.sets.specs.Sets.{has, intersection}
+use Rattle.sets.specs.Sets.{has}
 use Rattle.sets.proofs.Tests.{and-parts}
 use Rattle.sets.proofs.Operations.{has-intersection}
 use Rattle.label.specs.Refusals.{firstOf}
-use Rattle.protocol.specs.declared.Call.{Call}
-use Rattle.protocol.specs.declared.Call.the-variants.{Read}
 use Rattle.protocol.specs.declared.Power.{Power}
 use Rattle.protocol.specs.declared.Power.the-variants.{Stopped, Running}
 use Rattle.protocol.specs.Geometry.{block}
 use Rattle.protocol.specs.Soundness.{currentOf, live, source}
-use Rattle.protocol.specs.Outcomes.{Outcome}
-use Rattle.protocol.specs.Calls.{blockRefusals, readOutcome, formatOutcome}
-use Rattle.protocol.specs.History.{Step, Cabinet, perform, outcomeOf}
-use Rattle.protocol.specs.Book.{Contents, Book, carriedBy, entered, noted}
-use Rattle.protocol.specs.Demand3.{CallIn, book}
+use Rattle.protocol.specs.Calls.{blockRefusals, readOutcome}
+use Rattle.protocol.specs.History.{perform}
+use Rattle.protocol.specs.Book.{Book, carriedBy, entered, noted}
+use Rattle.protocol.specs.Demand3.{book}
 use Rattle.protocol.specs.Claims.{ReadsRight}
 use Rattle.protocol.proofs.Backing.{source-has}
 use Rattle.protocol.proofs.Passing.{refused-or, Runs, block-passed}

@@ -20,7 +20,7 @@ use Rattle.protocol.specs.Geometry.{mostDisks, regionOf, regions}
 use Rattle.protocol.specs.Soundness.{currentOf, live, source, InRange, FitLabel, FitCurrent, FitPower}
 use Rattle.protocol.specs.Stores.{Disks, Store, applyAll}
 use Rattle.protocol.specs.Lists.{moveToLive, preparations, marks, blockStores, fill, mends, writeList, joinList, cleanList, restartList}
-use Rattle.protocol.specs.Naming.{Found, none, one, several, one-set, Names, by-first, by-second, by-third}
+use Rattle.protocol.specs.Naming.{Found, none, one, several, Names}
 use Rattle.protocol.specs.Outcomes.{Outcome, refusedOr, withDisks, disksOf, carryOut}
 use Rattle.protocol.specs.Calls.{theSet, foundBy, withOnline, formatted, zeroState}
 use Rattle.protocol.specs.Calls.{formatRefusals}
@@ -30,7 +30,7 @@ use Rattle.protocol.specs.Claims.{Proper}
 use Rattle.protocol.proofs.Loops.{Each, each-append, each-take}
 use Rattle.protocol.proofs.Runs.{apply-append}
 use Rattle.protocol.proofs.Naming.{named-as-defined}
-use Rattle.protocol.proofs.Backing.{source-has}
+use Rattle.protocol.proofs.Backing.{source-has, found-candidate}
 use Rattle.protocol.proofs.Areas.{region-known}
 use Rattle.protocol.proofs.Passing.{refused-or, cut-or-whole, Runs, NamesOne, block-passed, join-passed, clean-passed, restart-passed, plug-passed}
 use Rattle.protocol.proofs.Formatting.{freshLabel, fresh-label, no-label, fresh-slots, all-known, all-filled, format-passed}
@@ -43,9 +43,7 @@ use Rattle.protocol.proofs.FitStores.{stay-current, commits-current, mo
 set-found : {online : ℕ} {labels : List Label} (f : Found) → Names online labels f → NamesOne f
     → (0 < theSet f) × ((d : ℕ) → has (theSet f) d ≡ true → has online d ≡ true)
 set-found none h single = absurd single
-set-found (one x) (by-first f (one-set c u)) single = (c .filled, c .inside)
-set-found (one x) (by-second f e1 (one-set c u)) single = (c .filled, c .inside)
-set-found (one x) (by-third e1 e2 (one-set c u)) single = (c .filled, c .inside)
+set-found (one x) h single = let (stage, c) = found-candidate h in (c .filled, c .inside)
 set-found several h single = absurd single
 
 -- ---- the ends of calls

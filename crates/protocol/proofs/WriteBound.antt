@@ -1,12 +1,11 @@
 -- "A write makes at most 4 times as many stores as L has disks." Assumes nothing.
-use mathlib.Core.Path.{_≡_, refl, sym, ap, _∙_}
 use mathlib.Core.Bool.{Bool, true, false, cond}
 use mathlib.Core.List.{List, [], _∷_, _++_}
-use Prim.Native.Nat.{ℕ, _+_, _*_, _^_, _≤_, _<_}
+use Prim.Native.Nat.{ℕ, _+_, _≤_}
 use native.Mathlib.Omega.{arith}
 use lib.Dec.{eqb}
 use lib.ListN.{length, length-append}
-use Rattle.sets.specs.Sets.{size, members}
+use Rattle.sets.specs.Sets.{members}
 use Rattle.sets.proofs.Bounds.{below-pow, below-intersection}
 use Rattle.sets.proofs.Cardinality.{size-members}
 use Rattle.label.specs.declared.Label.{Label}

@@ -1,18 +1,16 @@
 -- "So a write that gives 0 counts, and one cut before that store or otherwise refused does not." Assumes nothing.
-use mathlib.Core.Path.{_≡_, refl, sym, ap, _∙_}
+use mathlib.Core.Path.{_≡_, refl, _∙_}
 use mathlib.Core.Logic.{_≢_, _⊎_, inl, inr}
-use mathlib.Core.Bool.{Bool, true, false, cond}
-use mathlib.Core.List.{List, [], _∷_, _++_}
-use Prim.Native.Nat.{ℕ, _≤_, _<_}
+use mathlib.Core.Bool.{cond}
+use mathlib.Core.List.{List}
+use Prim.Native.Nat.{ℕ, _≤_}
 use native.Mathlib.Omega.{arith}
-use lib.Dec.{eqb}
 use lib.ListN.{length, take}
 use lib.Seq.{take-all, take-append-le}
 use borrow.Author.Tests.{eq-eqb, ne-eqb}
 use Rattle.sets.proofs.Tests.{same-or-not}
 use Rattle.sets.proofs.Bounds.{below-pow, below-intersection}
 use Rattle.label.specs.Refusals.{firstOf}
-use Rattle.protocol.specs.declared.Call.the-variants.{Write}
 use Rattle.protocol.specs.Soundness.{currentOf, live, source}
 use Rattle.protocol.specs.Stores.{Store}
 use Rattle.protocol.specs.Lists.{preparations, blockStores, writeList}

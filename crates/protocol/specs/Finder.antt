@@ -7,7 +7,7 @@ use Prim.Native.Nat.{ℕ, zero, suc, _^_, _<_}
 use lib.Dec.{eqb}
 use Rattle.label.specs.declared.Label.{Label}
 use Rattle.protocol.specs.Soundness.{labelAt}
-use Rattle.protocol.specs.Naming.{Stage, first, second, third, Found, none, one, several, candidate, named}
+use Rattle.protocol.specs.Naming.{Stage, first, second, third, Found, none, one, several, candidate, stages, decide, named}
 
 -- the set that a stage tries for a disk
 unfoldable pub tried : Stage → Label → ℕ
@@ -29,14 +29,8 @@ among stage n online labels (suc i) =
     (another (among stage n online labels i) (tried stage (labelAt labels i)))
     (among stage n online labels i)
 
-unfoldable pub orLater : Found → Found → Found
-orLater none later = later
-orLater (one x) later = one x
-orLater several later = several
-
 unfoldable pub find : ℕ → ℕ → List Label → Found
-find n online labels =
-    orLater (among first n online labels n) (orLater (among second n online labels n) (among third n online labels n))
+find n online labels = decide (λ stage. among stage n online labels n) stages
 
 -- It finds what the definition names, for every n.
 abbrev pub FindsNamed : Type 0

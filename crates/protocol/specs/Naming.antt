@@ -51,10 +51,18 @@ pub data Exactly (P : ℕ → Type 0) : Found → Type 0 where
   several-sets : {x y : ℕ} → P x → P y → x ≢ y → Exactly P several
 
 -- "The first stage with a candidate decides: one candidate is the set, more than one is refused with 14. No candidate in any stage is 13."
-pub data Names (online : ℕ) (labels : List Label) : Found → Type 0 where
-  by-first : {f : Found} → f ≢ none → Exactly (Candidate first online labels) f → Names online labels f
-  by-second : {f : Found} → f ≢ none → Exactly (Candidate first online labels) none → Exactly (Candidate second online labels) f → Names online labels f
-  by-third : {f : Found} → Exactly (Candidate first online labels) none → Exactly (Candidate second online labels) none → Exactly (Candidate third online labels) f → Names online labels f
+pub data Decides (online : ℕ) (labels : List Label) : List Stage → Found → Type 0 where
+  here : {stage : Stage} {later : List Stage} {f : Found} → f ≢ none → Exactly (Candidate stage online labels) f → Decides online labels (stage ∷ later) f
+  further : {stage : Stage} {later : List Stage} {f : Found}
+      → Exactly (Candidate stage online labels) none → Decides online labels later f → Decides online labels (stage ∷ later) f
+  nowhere : Decides online labels [] none
+
+abbrev pub stages : List Stage
+stages = first ∷ second ∷ third ∷ []
+
+-- what a restart names, with these disks in reach and these labels
+abbrev pub Names : ℕ → List Label → Found → Type 0
+Names online labels f = Decides online labels stages f
 
 -- ---- the same as a function, with the candidates of a stage as the list of all that there are among the 2 ^ n sets of disks below n
 
@@ -78,16 +86,24 @@ candidate stage n online labels x =
 unfoldable pub candidates : Stage → ℕ → ℕ → List Label → List ℕ
 candidates stage n online labels = ascending (2 ^ n) (λ x. cond (candidate stage n online labels x) (x ∷ []) [])
 
--- the first stage with a candidate decides
-unfoldable pub decide : List (List ℕ) → Found
-decide [] = none
-decide ([] ∷ later) = decide later
-decide ((x ∷ []) ∷ later) = one x
-decide ((x ∷ y ∷ more) ∷ later) = several
+-- what a list of different sets amounts to
+unfoldable pub count : List ℕ → Found
+count [] = none
+count (x ∷ []) = one x
+count (x ∷ y ∷ more) = several
+
+unfoldable pub orElse : Found → Found → Found
+orElse none later = later
+orElse (one x) later = one x
+orElse several later = several
+
+-- the first of these stages in which something is found decides
+unfoldable pub decide : (Stage → Found) → List Stage → Found
+decide found [] = none
+decide found (stage ∷ later) = orElse (found stage) (decide found later)
 
 unfoldable pub named : ℕ → ℕ → List Label → Found
-named n online labels =
-    decide (candidates first n online labels ∷ candidates second n online labels ∷ candidates third n online labels ∷ [])
+named n online labels = decide (λ stage. count (candidates stage n online labels)) stages
 
 -- The function gives the answer of the paper's sentences, and they have no other.
 pub record NamedAsDefined (n online : ℕ) (labels : List Label) : Type 0 where
