@@ -1,10 +1,11 @@
 -- The first refusal of a paragraph: when there is none, and how it is found one at a time. Assumes nothing.
 use mathlib.Core.Path.{_≡_, refl, _∙_}
-use mathlib.Core.Bool.{Bool, true, false, cond, not, _&&_}
+use mathlib.Core.Bool.{Bool, true, false, cond, not, _&&_, false≢true}
 use mathlib.Core.List.{List, [], _∷_}
 use Prim.Native.Nat.{ℕ, zero, suc, _<_}
 use native.Mathlib.Omega.{arith}
 use lib.Dec.{eqb, eqb·suc-zero}
+use lib.ListN.{getD}
 use borrow.Author.Tests.{not-true}
 use Rattle.sets.proofs.Tests.{and-parts}
 use Rattle.label.specs.Refusals.{firstOf, orElse}
@@ -44,3 +45,11 @@ from (suc earlier) (refusal ∷ later) h =
 -- so a call whose code takes its refusals in turn gives the first that applies
 pub in-turn : {given : ℕ} (refusals : List (ℕ × Bool)) → numbered refusals ≡ true → given ≡ inTurn 0 refusals → given ≡ firstOf refusals
 in-turn refusals h e = e ∙ from 0 refusals h
+
+-- a call whose refusals give 0 has passed each of them: the condition at place i, counted from 0, does not hold
+pub none-at : (refusals : List (ℕ × Bool)) → numbered refusals ≡ true → firstOf refusals ≡ 0 → (i : ℕ) → (getD refusals i (1, false)) .1 ≡ false
+none-at [] h e i = refl
+none-at ((zero, unfit) ∷ later) h e i = absurd (false≢true h)
+none-at ((suc number, unfit) ∷ later) h e zero = none-of (suc number) unfit later (omega arith) e .0
+none-at ((suc number, unfit) ∷ later) h e (suc i) =
+    none-at later (and-parts (not (eqb (suc number) 0)) (numbered later) h .1) (none-of (suc number) unfit later (omega arith) e .1) i

@@ -7,7 +7,7 @@ use Prim.Native.Nat.{ℕ, _^_, _≤_, _<_}
 use native.Mathlib.Nat.{add-sub-of-le}
 use native.Mathlib.Omega.{arith}
 use native.Mathlib.Decide.{decLt}
-use lib.Dec.{ltb, lit<}
+use lib.Dec.{ltb}
 use lib.ListN.{length, replicate, length-append, length-replicate, getD-replicate, List·getD-eq-default}
 use borrow.Author.Tests.{ltb-true, lt-ltb, ltb-false}
 use Rattle.sets.specs.Sets.{has, all}
@@ -18,7 +18,7 @@ use Rattle.sets.proofs.LowestMember.{non-empty}
 use Rattle.label.specs.declared.Label.{Label}
 use Rattle.label.specs.Form.{narrow}
 use Rattle.label.specs.Refusals.{firstOf}
-use Rattle.label.proofs.Order.{none-of}
+use Rattle.label.proofs.Order.{none-at}
 use Rattle.label.proofs.Accepting.{in-range}
 use Rattle.protocol.specs.Geometry.{mostDisks, mostBlocks, areaSize}
 use Rattle.protocol.specs.Soundness.{blank, labelAt, source, InRange}
@@ -102,10 +102,9 @@ opened-safe n b range = record {
 pub format-passed : (n b : ℕ) (area : List ℕ) → firstOf (formatRefusals n b area) ≡ 0 → InRange n b
 unfolding formatRefusals
 format-passed n b area e =
-    let (p4, e4) = none-of 4 _ _ (lit< tt) e in
-    let (p5, e5) = none-of 5 _ _ (lit< tt) e4 in
-    let (some, most) = in-range narrow n p4 in
-    let (few, many) = or-parts (ltb b 1) (ltb mostBlocks b) p5 in
+    let no = none-at (formatRefusals n b area) refl e in
+    let (some, most) = in-range narrow n (no 0) in
+    let (few, many) = or-parts (ltb b 1) (ltb mostBlocks b) (no 1) in
     record { some-disk = some; disks = most; some-block = ltb-false _ _ few; blocks = ltb-false _ _ many }
 
 -- a done fresh gives what the book begins with, whatever was in the area

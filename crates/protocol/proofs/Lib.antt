@@ -1,34 +1,42 @@
 -- The theorems of the protocol, for every n and b, and what they rest on.
+
+-- document 01's cases, computed
+pub mod HandCases
+-- loops, lists of stores and where they are cut, blocks, labels
 pub mod Loops
 pub mod Turns
-pub mod Refusals
 pub mod Runs
 pub mod Areas
 pub mod Labels
+-- soundness, refusals, and the set that a restart names
 pub mod Soundness
+pub mod Refusals
+pub mod Passing
 pub mod Naming
+-- what the labels of a cabinet back, and what its disks hold against the book
 pub mod Backing
 pub mod Moving
 pub mod Holding
+-- each call's stores, cut anywhere
 pub mod Moves
 pub mod Counting
 pub mod Writes
 pub mod Joins
 pub mod Cleans
 pub mod Restarts
-pub mod Passing
-pub mod FitStores
 pub mod Safety
-pub mod Assembling
-pub mod Saving
+-- soundness is kept
+pub mod FitStores
 pub mod Formatting
 pub mod SoundCalls
+pub mod Assembling
+pub mod Saving
+-- lists of calls
 pub mod Histories
 pub mod RestartCalls
 pub mod Invariant
 pub mod Demand3
-pub mod HandCases
 pub mod ReadCalls
-pub mod WriteBound
 pub mod WritesCount
+pub mod WriteBound
 pub mod SoundLists

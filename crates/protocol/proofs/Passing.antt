@@ -5,12 +5,12 @@ use mathlib.Core.Bool.{Bool, false, not, cond}
 use mathlib.Core.List.{List}
 use Prim.Native.Nat.{ℕ, _≤_, _<_}
 use native.Mathlib.Omega.{arith}
-use lib.Dec.{eqb, ltb, lit<}
+use lib.Dec.{eqb, ltb}
 use lib.ListN.{length}
 use borrow.Author.Tests.{eqb-true, eqb-false, eq-eqb, ne-eqb, ltb-true, ltb-false, not-false}
 use Rattle.sets.proofs.Tests.{Test, passes, fails, test, clash, same-or-not}
 use Rattle.label.specs.Refusals.{firstOf}
-use Rattle.label.proofs.Order.{none-of}
+use Rattle.label.proofs.Order.{none-at}
 use Rattle.protocol.specs.declared.Power.{Power}
 use Rattle.protocol.specs.declared.Power.the-variants.{Stopped, Running}
 use Rattle.protocol.specs.declared.State.{State}
@@ -90,24 +90,17 @@ pub record BlockPassed (s : State) (area : List ℕ) (k : ℕ) (bytes : List ℕ
 pub block-passed : (s : State) (area : List ℕ) (k : ℕ) (bytes : List ℕ) → firstOf (blockRefusals s area k bytes) ≡ 0 → BlockPassed s area k bytes
 unfolding blockRefusals
 block-passed s area k bytes e =
-    let (p1, e1) = none-of 1 _ _ (lit< tt) e in
-    let (p2, e2) = none-of 2 _ _ (lit< tt) e1 in
-    let (p3, e3) = none-of 3 _ _ (lit< tt) e2 in
-    let (p6, e6) = none-of 6 _ _ (lit< tt) e3 in
-    let (p9, e9) = none-of 9 _ _ (lit< tt) e6 in
-    let (p12, e12) = none-of 12 _ _ (lit< tt) e9 in
+    let no = none-at (blockRefusals s area k bytes) refl e in
     record {
-      fit = sound-if s p1;
-      size = eqb-true _ _ (not-false _ p2);
-      full = eqb-true _ _ (not-false _ p3);
-      power = runs-if (s .power) p6;
-      known = ltb-true _ _ (not-false _ p9);
-      some = positive (live s) p12;
+      fit = sound-if s (no 0);
+      size = eqb-true _ _ (not-false _ (no 1));
+      full = eqb-true _ _ (not-false _ (no 2));
+      power = runs-if (s .power) (no 3);
+      known = ltb-true _ _ (not-false _ (no 4));
+      some = positive (live s) (no 5);
     }
 
 pub record JoinPassed (s : State) (area : List ℕ) (d : ℕ) : Type 0 where
-  pub fit : Sound s
-  pub size : length area ≡ areaSize (s .disks) (s .blocks)
   pub power : Runs (s .power)
   pub known : d < s .disks
   pub some : 0 < live s
@@ -115,31 +108,12 @@ pub record JoinPassed (s : State) (area : List ℕ) (d : ℕ) : Type 0 where
 pub join-passed : (s : State) (area : List ℕ) (d : ℕ) → firstOf (joinRefusals s area d) ≡ 0 → JoinPassed s area d
 unfolding joinRefusals
 join-passed s area d e =
-    let (p1, e1) = none-of 1 _ _ (lit< tt) e in
-    let (p2, e2) = none-of 2 _ _ (lit< tt) e1 in
-    let (p6, e6) = none-of 6 _ _ (lit< tt) e2 in
-    let (p8, e8) = none-of 8 _ _ (lit< tt) e6 in
-    let (p10, e10) = none-of 10 _ _ (lit< tt) e8 in
-    let (p11, e11) = none-of 11 _ _ (lit< tt) e10 in
-    let (p12, e12) = none-of 12 _ _ (lit< tt) e11 in
-    record {
-      fit = sound-if s p1;
-      size = eqb-true _ _ (not-false _ p2);
-      power = runs-if (s .power) p6;
-      known = ltb-true _ _ (not-false _ p8);
-      some = positive (live s) p12;
-    }
+    let no = none-at (joinRefusals s area d) refl e in
+    record { power = runs-if (s .power) (no 2); known = ltb-true _ _ (not-false _ (no 3)); some = positive (live s) (no 6) }
 
-pub record CleanPassed (s : State) : Type 0 where
-  pub fit : Sound s
-  pub power : Runs (s .power)
-
-pub clean-passed : (s : State) → firstOf (cleanRefusals s) ≡ 0 → CleanPassed s
+pub clean-passed : (s : State) → firstOf (cleanRefusals s) ≡ 0 → Runs (s .power)
 unfolding cleanRefusals
-clean-passed s e =
-    let (p1, e1) = none-of 1 _ _ (lit< tt) e in
-    let (p6, e6) = none-of 6 _ _ (lit< tt) e1 in
-    record { fit = sound-if s p1; power = runs-if (s .power) p6 }
+clean-passed s e = runs-if (s .power) (none-at (cleanRefusals s) refl e 1)
 
 abbrev pub NamesOne : Found → Type 0
 NamesOne none = ⊥
@@ -153,32 +127,15 @@ names-one-if several p q = clash refl q
 
 pub record RestartPassed (s : State) (area : List ℕ) : Type 0 where
   pub fit : Sound s
-  pub size : length area ≡ areaSize (s .disks) (s .blocks)
   pub power : Stops (s .power)
   pub names : NamesOne (foundBy s)
 
 pub restart-passed : (s : State) (area : List ℕ) → firstOf (restartRefusals s area) ≡ 0 → RestartPassed s area
 unfolding restartRefusals
 restart-passed s area e =
-    let (p1, e1) = none-of 1 _ _ (lit< tt) e in
-    let (p2, e2) = none-of 2 _ _ (lit< tt) e1 in
-    let (p7, e7) = none-of 7 _ _ (lit< tt) e2 in
-    let (p13, e13) = none-of 13 _ _ (lit< tt) e7 in
-    let (p14, e14) = none-of 14 _ _ (lit< tt) e13 in
-    record {
-      fit = sound-if s p1;
-      size = eqb-true _ _ (not-false _ p2);
-      power = stops-if (s .power) p7;
-      names = names-one-if (foundBy s) p13 p14;
-    }
+    let no = none-at (restartRefusals s area) refl e in
+    record { fit = sound-if s (no 0); power = stops-if (s .power) (no 2); names = names-one-if (foundBy s) (no 3) (no 4) }
 
-pub record PlugPassed (s : State) (d : ℕ) : Type 0 where
-  pub fit : Sound s
-  pub known : d < s .disks
-
-pub plug-passed : (s : State) (d : ℕ) → firstOf (plugRefusals s d) ≡ 0 → PlugPassed s d
+pub plug-passed : (s : State) (d : ℕ) → firstOf (plugRefusals s d) ≡ 0 → d < s .disks
 unfolding plugRefusals
-plug-passed s d e =
-    let (p1, e1) = none-of 1 _ _ (lit< tt) e in
-    let (p8, e8) = none-of 8 _ _ (lit< tt) e1 in
-    record { fit = sound-if s p1; known = ltb-true _ _ (not-false _ p8) }
+plug-passed s d e = ltb-true _ _ (not-false _ (none-at (plugRefusals s d) refl e 1))

@@ -107,7 +107,7 @@ module _ (c : Contents) (s : State) (area output : List ℕ) where
 
   clean-safe : (budget : ℕ) (p : Power) → Held (s .disks) (s .blocks) c w p → firstOf (cleanRefusals (at p)) ≡ 0
       → SafeAfter c (carryOut (cleanList (at p)) budget (currentOf p) (at p) area output)
-  clean-safe budget Stopped h e = absurd (clean-passed (at Stopped) e .power)
+  clean-safe budget Stopped h e = absurd (clean-passed (at Stopped) e)
   clean-safe budget (Running g) h e =
       carried c (at (Running g)) area output (cleanList (at (Running g))) budget g
       (clean-cut (s .disks) (s .blocks) c (at (Running g)) g w h) (clean-done (s .disks) (s .blocks) c (at (Running g)) g w h)

@@ -166,12 +166,12 @@ module _ (bytes output : List ℕ) (c : Cabinet) (p : Proper (c .state)) where
   performed (Join d budget) = unless-refused (c .state) p _ (c .area) output _
       (λ e. let pass = join-passed (c .state) (c .area) d e in joined (c .state) p (pass .power) d budget (c .area) output (pass .known) (pass .some))
   performed (Clean budget) = unless-refused (c .state) p _ (c .area) output _
-      (λ e. cleaned (c .state) p (clean-passed (c .state) e .power) budget (c .area) output)
+      (λ e. cleaned (c .state) p (clean-passed (c .state) e) budget (c .area) output)
   performed (Restart budget) = unless-refused (c .state) p _ (c .area) output _
       (λ e. restarted (c .state) p budget (c .area) output (restart-passed (c .state) (c .area) e .names))
   performed (Detach d) = unless-refused (c .state) p _ (c .area) output _ (λ e. plugged (c .state) p _ (below-difference _ _ _ (p .fit .online)))
   performed (Attach d) = unless-refused (c .state) p _ (c .area) output _
-      (λ e. plugged (c .state) p _ (below-with _ d _ (p .fit .online) (plug-passed (c .state) d e .known)))
+      (λ e. plugged (c .state) p _ (below-with _ d _ (p .fit .online) (plug-passed (c .state) d e)))
   performed PowerOff = unless-refused (c .state) p _ (c .area) output _ (λ e. after (c .state) p _ Stopped (before (c .state) p (c .area)) tt)
 
 pub calls-keep : (x : Step) (c : Cabinet) → Proper (c .state) → Proper (outcomeOf x c .answer .state)
