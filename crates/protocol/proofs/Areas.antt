@@ -14,7 +14,7 @@ use Rattle.protocol.specs.Geometry.{blockSize, regionOf, regions, areaSi
 -- ---- parts of a list
 
 module _ (p : ℕ) (new old : List ℕ) (fits : p + length new ≤ length old) where
-  pub splice-length : length (splice p new old) ≡ length old
+  splice-length : length (splice p new old) ≡ length old
   unfolding splice
   splice-length = simp (length-append, length-take, length-drop) (omega arith)
 

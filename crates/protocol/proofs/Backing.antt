@@ -53,7 +53,7 @@ pub record Recoverable (n : ℕ) (labels : List Label) : Type 0 where
   pub known : (x : ℕ) → Backed labels x → x < 2 ^ n
   pub some-set : (x : ℕ) × Backed labels x
 
-pub agreed-backed : {n : ℕ} {labels : List Label} {g : ℕ} → Agreed n labels g → Backed labels g
+agreed-backed : {n : ℕ} {labels : List Label} {g : ℕ} → Agreed n labels g → Backed labels g
 agreed-backed h = record { filled = h .filled; each = λ d m. inr (h .members d m .0) }
 
 pub agreed-recoverable : {n : ℕ} {labels : List Label} {g : ℕ} → Agreed n labels g → Recoverable n labels

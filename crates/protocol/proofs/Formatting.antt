@@ -50,7 +50,7 @@ module _ (n b : ℕ) where
   unfolding formatted
   fresh-slots h = simp (length-append, length-replicate) (add-sub-of-le h)
 
-  pub member-of-all : (d : ℕ) → has (all n) d ≡ true → d < n
+  member-of-all : (d : ℕ) → has (all n) d ≡ true → d < n
   member-of-all d m = ltb-true d n (sym (has-all n d) ∙ m)
 
   pub all-known : all n < 2 ^ n

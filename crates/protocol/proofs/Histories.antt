@@ -9,7 +9,7 @@ use Rattle.protocol.specs.declared.State.{State}
 use Rattle.protocol.specs.Stores.{Store}
 use Rattle.protocol.specs.Outcomes.{Outcome, refusedOr, carryOut}
 use Rattle.protocol.specs.Calls.{readOutcome, writeOutcome, joinOutcome, cleanOutcome, restartOutcome, detachOutcome, attachOutcome, powerOffOutcome}
-use Rattle.protocol.specs.History.{Step, Cabinet, perform, outcomeOf, cabinetOf, ran}
+use Rattle.protocol.specs.History.{Step, Cabinet, perform, ran}
 use Rattle.protocol.specs.Book.{Book, noted, kept}
 use Rattle.protocol.proofs.Passing.{refused-or, cut-or-whole}
 
@@ -35,13 +35,9 @@ same-size (Detach d) bytes output c = unless-refused _ (c .state) (c .area) outp
 same-size (Attach d) bytes output c = unless-refused _ (c .state) (c .area) output _ (refl, refl)
 same-size PowerOff bytes output c = unless-refused _ (c .state) (c .area) output _ (refl, refl)
 
--- ---- two lists in a row
+-- ---- lists
 
-pub ran-append : (xs ys : List Step) (c : Cabinet) → ran (xs ++ ys) c ≡ ran ys (ran xs c)
-unfolding ran
-ran-append [] ys c = refl
-ran-append (x ∷ xs) ys c = ran-append xs ys (cabinetOf (outcomeOf x c))
-
+-- two in a row
 pub kept-append : (xs ys : List Step) (book : Book) → kept (xs ++ ys) book ≡ kept ys (kept xs book)
 unfolding kept
 kept-append [] ys book = refl

@@ -63,7 +63,7 @@ module _ (n b : ℕ) (lent : List ℕ) (done : formatOutcome lent [] n b .answer
         blocks = refl;
       }
 
-  pub good : (calls : List Step) → Good n b (kept calls (opened n b))
+  good : (calls : List Step) → Good n b (kept calls (opened n b))
   good calls = after-calls (Good n b) (good-kept n b) calls (opened n b) opened-good
 
   -- the program's cabinet is the book's, though neither is given anything of the other

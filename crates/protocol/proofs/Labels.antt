@@ -14,7 +14,7 @@ use Rattle.sets.proofs.Tests.{and-parts, same-or-not}
 use Rattle.sets.proofs.Operations.{has-union, has-difference, has-singleton}
 use Rattle.label.specs.declared.Label.{Label}
 use Rattle.protocol.specs.Soundness.{blank, labelAt, isDirty}
-use Rattle.protocol.specs.Stores.{Disks, Store, write, copy, mark, clear, propose, commit, withDirty, apply, applyAll}
+use Rattle.protocol.specs.Stores.{Disks, Store, mark, clear, propose, commit, withDirty, apply, applyAll}
 use Rattle.protocol.specs.Lists.{proposals, commits, move, moveToLive}
 use Rattle.protocol.proofs.Loops.{Each, nil, cons, each-append, each-unless, each-member}
 use Rattle.protocol.proofs.Runs.{keeps, made-members}
@@ -36,15 +36,6 @@ field-set f (x ∷ labels) zero l q zero = q
 field-set f (x ∷ labels) zero l q (suc e) = refl
 field-set f (x ∷ labels) (suc d) l q zero = refl
 field-set f (x ∷ labels) (suc d) l q (suc e) = field-set f labels d l q e
-
-pub same-slots : (b : ℕ) (x : Store) (w : Disks) → length (apply b x w .labels) ≡ length (w .labels)
-unfolding apply
-same-slots b (write d k bytes) w = refl
-same-slots b (copy from to k) w = refl
-same-slots b (mark d r) w = length-set (w .labels) d _
-same-slots b (clear d r) w = length-set (w .labels) d _
-same-slots b (propose d s) w = length-set (w .labels) d _
-same-slots b (commit d s) w = length-set (w .labels) d _
 
 -- ---- dirty bits
 

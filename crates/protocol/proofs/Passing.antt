@@ -14,7 +14,7 @@ use Rattle.label.proofs.Order.{none-at}
 use Rattle.protocol.specs.declared.Power.{Power}
 use Rattle.protocol.specs.declared.Power.the-variants.{Stopped, Running}
 use Rattle.protocol.specs.declared.State.{State}
-use Rattle.protocol.specs.Geometry.{blockSize, areaSize}
+use Rattle.protocol.specs.Geometry.{blockSize}
 use Rattle.protocol.specs.Soundness.{isRunning, live, Sound, sound}
 use Rattle.protocol.specs.Stores.{Store, applyAll, made}
 use Rattle.protocol.specs.Naming.{Found, none, one, several}
@@ -61,7 +61,7 @@ runs-if : (p : Power) → not (isRunning p) ≡ false → Runs p
 runs-if Stopped e = clash refl e
 runs-if (Running g) e = tt
 
-abbrev pub Stops : Power → Type 0
+abbrev Stops : Power → Type 0
 Stops Stopped = Unit {0}
 Stops (Running g) = ⊥
 
@@ -81,7 +81,6 @@ positive m e = go (same-or-not m 0)
 
 pub record BlockPassed (s : State) (area : List ℕ) (k : ℕ) (bytes : List ℕ) : Type 0 where
   pub fit : Sound s
-  pub size : length area ≡ areaSize (s .disks) (s .blocks)
   pub full : length bytes ≡ blockSize
   pub power : Runs (s .power)
   pub known : k < s .blocks
@@ -93,7 +92,6 @@ block-passed s area k bytes e =
     let no = none-at (blockRefusals s area k bytes) refl e in
     record {
       fit = sound-if s (no 0);
-      size = eqb-true _ _ (not-false _ (no 1));
       full = eqb-true _ _ (not-false _ (no 2));
       power = runs-if (s .power) (no 3);
       known = ltb-true _ _ (not-false _ (no 4));

@@ -31,7 +31,7 @@ module _ {n b : ℕ} {book : Book} (h : Good n b book) (output : List ℕ) (k : 
       let m = and-parts _ _ (sym (has-intersection (currentOf (book .cabinet .state .power)) (book .cabinet .state .online) a) ∙ source-has _ some) .0 in
       (g, e, subst (λ p. has (currentOf p) a ≡ true) e m)
 
-  pub read-right : readOutcome (book .cabinet .state) (book .cabinet .area) output k .answer .refusal ≡ 0
+  read-right : readOutcome (book .cabinet .state) (book .cabinet .area) output k .answer .refusal ≡ 0
       → readOutcome (book .cabinet .state) (book .cabinet .area) output k .output ≡ book .contents k
   unfolding readOutcome
   read-right = refused-or _ _ _ output _ (λ o. o .answer .refusal ≡ 0 → o .output ≡ book .contents k) (λ ne z. absurd (ne z)) (λ e z. yields e)

@@ -4,7 +4,6 @@ use mathlib.Core.Logic.{_≢_}
 use mathlib.Core.Bool.{true}
 use mathlib.Core.List.{List}
 use Prim.Native.Nat.{ℕ}
-use lib.ListN.{length}
 use lib.Seq.{take-all}
 use borrow.Author.Tests.{eq-eqb, ne-eqb}
 use Rattle.sets.specs.Sets.{has, union, singleton}
@@ -17,7 +16,6 @@ use Rattle.protocol.specs.declared.Power.the-variants.{Stopped, Running}
 use Rattle.protocol.specs.declared.State.{State}
 use Rattle.protocol.specs.declared.Call.{Call}
 use Rattle.protocol.specs.declared.Call.the-variants.{Read, Write, Join, Clean, Restart, Detach, Attach, PowerOff}
-use Rattle.protocol.specs.Geometry.{areaSize}
 use Rattle.protocol.specs.Soundness.{currentOf, live}
 use Rattle.protocol.specs.Stores.{Disks, Store, applyAll}
 use Rattle.protocol.specs.Lists.{writeList, joinList, cleanList, restartList}
@@ -52,9 +50,6 @@ SafeAfter c o = Safe c (cabinetOf o)
 pub held-stops : (n b : ℕ) (c : Contents) (w : Disks) (p : Power) → Held n b c w p → Restartable n b c w
 held-stops n b c w Stopped h = h
 held-stops n b c w (Running g) h = steady-stops n b c h
-
-pub held-size : (n b : ℕ) (c : Contents) (w : Disks) (p : Power) → Held n b c w p → length (w .area) ≡ areaSize n b
-held-size n b c w p h = held-stops n b c w p h .size
 
 -- a list of stores under a budget
 carried : (c : Contents) (s : State) (area output : List ℕ) (stores : List Store) (budget g : ℕ)

@@ -171,14 +171,14 @@ module _ (n b : ℕ) (c : Contents) (l k : ℕ) (hk : k < b) (bytes : List ℕ) 
       at-source = still-here d (source l) hd in-l v (s .storing) (s .at-source);
     }
 
-    pub later-cut : (later : List Store) → blockStores n l k bytes ≡ write (source l) k bytes ∷ later → (j : ℕ)
+    later-cut : (later : List Store) → blockStores n l k bytes ≡ write (source l) k bytes ∷ later → (j : ℕ)
         → Restartable n b new (applyAll b (take j later) (apply b (write (source l) k bytes) w))
     later-cut later e j = let s = keeps-along b Stored BlockStore next (tail (rw e at each-block-store)) _ first j in open-to-restart _ (s .storing) (s .at-source)
       where
         tail : {x : Store} {xs : List Store} → Each BlockStore (x ∷ xs) → Each BlockStore xs
         tail (cons p ps) = ps
 
-    pub blocks-done : Steady n b new l (applyAll b (blockStores n l k bytes) w)
+    blocks-done : Steady n b new l (applyAll b (blockStores n l k bytes) w)
     unfolding blockStores
     blocks-done =
         let (s, all) = made-members b (λ d. write d k bytes) l Storing (λ d v. Right n b new v d k) n
