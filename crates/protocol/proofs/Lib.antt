@@ -1,7 +1,7 @@
 -- The theorems of the protocol, for every n and b, and what they rest on.
 
 -- document 01's cases, computed
-pub mod HandCases
+pub mod ByHand
 -- loops, lists of stores and where they are cut, blocks, labels
 pub mod Loops
 pub mod Turns

@@ -12,9 +12,11 @@ use Rattle.sets.proofs.Tests.{Test, passes, fails, test, clash, and-parts, same
 use Rattle.sets.proofs.Operations.{subset-members}
 use Rattle.sets.proofs.Bounds.{member-below, below-pow, below-members}
 use Rattle.label.specs.declared.Label.{Label}
+use Rattle.protocol.specs.declared.State.{State}
 use Rattle.protocol.specs.Loops.{ascending, every, some}
-use Rattle.protocol.specs.Soundness.{labelAt}
-use Rattle.protocol.specs.Naming.{Stage, first, second, third, Found, none, one, several, Backs, Proposes, Candidate, Exactly, no-set, one-set, several-sets, Decides, here, further, nowhere, stages, backs, proposes, candidate, candidates, count, orElse, decide, named, NamedAsDefined}
+use Rattle.protocol.specs.Soundness.{labelAt, Sound}
+use Rattle.protocol.specs.Naming.{Stage, first, second, third, Found, none, one, several, Backs, Proposes, Candidate, Exactly, no-set, one-set, several-sets, Decides, here, further, nowhere, stages, Names, backs, proposes, candidate, candidates, count, orElse, decide, named, NamedAsDefined}
+use Rattle.protocol.specs.Calls.{foundBy}
 use Rattle.protocol.specs.Finder.{tried, another, among, find, FindsNamed}
 use Rattle.protocol.proofs.Loops.{every-at, every-of, some-member, some-is}
 
@@ -174,6 +176,11 @@ unfolding named
 named-as-defined n online labels known =
     let right = decided online labels (λ stage. count (candidates stage n online labels)) (stage-right n online labels known) stages in
     record { answers = right; only = λ f h. decides-same h right }
+
+-- what a restart of a sound state names
+pub found-names : (s : State) → Sound s → Names (s .online) (s .labels) (foundBy s)
+unfolding foundBy
+found-names s fit = named-as-defined (s .disks) (s .online) (s .labels) (below-pow (s .online) (s .disks) .0 (fit .online)) .answers
 
 -- ---- the finder
 

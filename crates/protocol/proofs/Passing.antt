@@ -16,9 +16,9 @@ use Rattle.protocol.specs.declared.Power.the-variants.{Stopped, Running}
 use Rattle.protocol.specs.declared.State.{State}
 use Rattle.protocol.specs.Geometry.{blockSize}
 use Rattle.protocol.specs.Soundness.{isRunning, live, Sound, sound}
-use Rattle.protocol.specs.Stores.{Store, applyAll, made}
+use Rattle.protocol.specs.Stores.{Store}
 use Rattle.protocol.specs.Naming.{Found, none, one, several}
-use Rattle.protocol.specs.Outcomes.{Outcome, outcome, refusedOr, disksOf, ended, carryOut}
+use Rattle.protocol.specs.Outcomes.{Outcome, outcome, refusedOr, cutShort, whole, carryOut}
 use Rattle.protocol.specs.Calls.{isNone, isSeveral, foundBy, blockRefusals, joinRefusals, cleanRefusals, restartRefusals, plugRefusals}
 use Rattle.protocol.proofs.Soundness.{test-agrees}
 
@@ -37,19 +37,14 @@ module _ (refusals : List (ℕ × Bool)) (s : State) (area output : List ℕ) (d
 
 -- cut or whole
 module _ (stores : List Store) (budget g : ℕ) (s : State) (area output : List ℕ) where
-  pub cut-or-whole : (P : Outcome → Type 0)
-      → (budget < length stores → P (ended 15 budget s (applyAll (s .blocks) (made budget stores) (disksOf s area)) Stopped output))
-      → (length stores ≤ budget → P (ended 0 (length stores) s (applyAll (s .blocks) stores (disksOf s area)) (Running g) output))
+  pub cut-or-whole : (P : Outcome → Type 0) → (budget < length stores → P (cutShort stores budget s area output)) → (length stores ≤ budget → P (whole stores g s area output))
       → P (carryOut stores budget g s area output)
   unfolding carryOut
-  cut-or-whole P cut whole = go (test (ltb budget (length stores)))
+  cut-or-whole P is-cut is-whole = go (test (ltb budget (length stores)))
     where
-      go : Test (ltb budget (length stores))
-          → P (cond (ltb budget (length stores))
-          (ended 15 budget s (applyAll (s .blocks) (made budget stores) (disksOf s area)) Stopped output)
-          (ended 0 (length stores) s (applyAll (s .blocks) stores (disksOf s area)) (Running g) output))
-      go (passes e) = rw e (cut (ltb-true _ _ e))
-      go (fails e) = rw e (whole (ltb-false _ _ e))
+      go : Test (ltb budget (length stores)) → P (cond (ltb budget (length stores)) (cutShort stores budget s area output) (whole stores g s area output))
+      go (passes e) = rw e (is-cut (ltb-true _ _ e))
+      go (fails e) = rw e (is-whole (ltb-false _ _ e))
 
 -- ---- what is known where a call is not refused
 

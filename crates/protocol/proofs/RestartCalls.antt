@@ -8,7 +8,6 @@ use native.Mathlib.Omega.{arith}
 use lib.ListN.{length}
 use borrow.Author.Tests.{eq-eqb, le-ltb}
 use Rattle.sets.specs.Sets.{all}
-use Rattle.sets.proofs.Bounds.{below-pow}
 use Rattle.label.specs.Refusals.{firstOf}
 use Rattle.protocol.specs.declared.Power.the-variants.{Stopped, Running}
 use Rattle.protocol.specs.declared.State.{State}
@@ -22,7 +21,7 @@ use Rattle.protocol.specs.History.{Cabinet}
 use Rattle.protocol.specs.Book.{Contents}
 use Rattle.protocol.specs.Claims.{Proper}
 use Rattle.protocol.proofs.Soundness.{test-agrees}
-use Rattle.protocol.proofs.Naming.{named-as-defined}
+use Rattle.protocol.proofs.Naming.{found-names}
 use Rattle.protocol.proofs.Backing.{never-several, finds-one}
 use Rattle.protocol.proofs.Holding.{Restartable}
 use Rattle.protocol.proofs.Passing.{refused-or, cut-or-whole}
@@ -36,8 +35,7 @@ module _ (c : Contents) (cabinet : Cabinet) (safe : Safe c cabinet) (proper : Pr
   stopped = held-stops (s .disks) (s .blocks) c (disksOf s (cabinet .area)) (s .power) (safe .held)
 
   names : Names (s .online) (s .labels) (foundBy s)
-  unfolding foundBy
-  names = named-as-defined (s .disks) (s .online) (s .labels) (below-pow _ _ .0 (proper .fit .online)) .answers
+  names = found-names s (proper .fit)
 
   not-several : isSeveral (foundBy s) ≡ false
   not-several = go (foundBy s) names

@@ -9,7 +9,6 @@ use borrow.Author.Tests.{eq-eqb, ne-eqb}
 use Rattle.sets.specs.Sets.{has, union, singleton}
 use Rattle.sets.proofs.Tests.{and-parts}
 use Rattle.sets.proofs.Operations.{has-intersection}
-use Rattle.sets.proofs.Bounds.{below-pow}
 use Rattle.label.specs.Refusals.{firstOf}
 use Rattle.protocol.specs.declared.Power.{Power}
 use Rattle.protocol.specs.declared.Power.the-variants.{Stopped, Running}
@@ -25,7 +24,7 @@ use Rattle.protocol.specs.Calls.{theSet, foundBy, blockRefusals, joinRef
 use Rattle.protocol.specs.History.{Cabinet, perform, cabinetOf}
 use Rattle.protocol.specs.Book.{Contents, counts, carriedBy, entered}
 use Rattle.protocol.proofs.Runs.{Along}
-use Rattle.protocol.proofs.Naming.{named-as-defined}
+use Rattle.protocol.proofs.Naming.{found-names}
 use Rattle.protocol.proofs.Backing.{found-backed}
 use Rattle.protocol.proofs.Holding.{Steady, Restartable, steady-stops}
 use Rattle.protocol.proofs.Moves.{live-known}
@@ -56,8 +55,8 @@ carried : (c : Contents) (s : State) (area output : List ℕ) (stores : List Sto
     → Along (s .blocks) (Restartable (s .disks) (s .blocks) c) stores (disksOf s area)
     → Steady (s .disks) (s .blocks) c g (applyAll (s .blocks) stores (disksOf s area))
     → SafeAfter c (carryOut stores budget g s area output)
-carried c s area output stores budget g along whole =
-    cut-or-whole stores budget g s area output (SafeAfter c) (λ l. record { held = along budget }) (λ l. record { held = whole })
+carried c s area output stores budget g along done =
+    cut-or-whole stores budget g s area output (SafeAfter c) (λ l. record { held = along budget }) (λ l. record { held = done })
 
 -- ---- the calls of a running cabinet
 
@@ -111,12 +110,11 @@ module _ (c : Contents) (s : State) (area output : List ℕ) where
 
   restart-safe : (budget : ℕ) (p : Power) → Held (s .disks) (s .blocks) c w p → firstOf (restartRefusals (at p) area) ≡ 0
       → SafeAfter c (carryOut (restartList (at p) (theSet (foundBy (at p)))) budget (theSet (foundBy (at p))) (at p) area output)
-  unfolding restartList foundBy
+  unfolding restartList
   restart-safe budget (Running g) h e = absurd (restart-passed (at (Running g)) area e .power)
   restart-safe budget Stopped h e =
       let pass = restart-passed (at Stopped) area e in
-      let names = named-as-defined (s .disks) (s .online) (s .labels) (below-pow _ _ .0 (pass .fit .online)) .answers in
-      go (foundBy (at Stopped)) (pass .names) names
+      go (foundBy (at Stopped)) (pass .names) (found-names (at Stopped) (pass .fit))
     where
       go : (f : Found) → NamesOne f → Names (s .online) (s .labels) f
           → SafeAfter c (carryOut (restartList (at Stopped) (theSet f)) budget (theSet f) (at Stopped) area output)

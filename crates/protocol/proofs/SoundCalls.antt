@@ -29,7 +29,7 @@ use Rattle.protocol.specs.History.{Step, Cabinet, perform, outcomeOf}
 use Rattle.protocol.specs.Claims.{Proper}
 use Rattle.protocol.proofs.Loops.{Each, each-append, each-take}
 use Rattle.protocol.proofs.Runs.{apply-append}
-use Rattle.protocol.proofs.Naming.{named-as-defined}
+use Rattle.protocol.proofs.Naming.{found-names}
 use Rattle.protocol.proofs.Backing.{source-has, found-candidate}
 use Rattle.protocol.proofs.Areas.{region-known}
 use Rattle.protocol.proofs.Passing.{refused-or, cut-or-whole, Runs, NamesOne, block-passed, join-passed, clean-passed, restart-passed, plug-passed}
@@ -133,9 +133,9 @@ module _ (s : State) (p : Proper s) where
 
   restarted : (budget : ℕ) (area output : List ℕ) → NamesOne (foundBy s)
       → ProperAfter (carryOut (restartList s (theSet (foundBy s))) budget (theSet (foundBy s)) s area output)
-  unfolding restartList foundBy
+  unfolding restartList
   restarted budget area output single =
-      let (filled, inside) = set-found (foundBy s) (named-as-defined n (s .online) (s .labels) (below-pow _ n .0 (p .fit .online)) .answers) single in
+      let (filled, inside) = set-found (foundBy s) (found-names s (p .fit)) single in
       let known = below-inside (theSet (foundBy s)) (s .online) n inside (p .fit .online) in
       carried _ budget _ area output
       (each-append mended (each-commit n b _ known))

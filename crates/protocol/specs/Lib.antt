@@ -13,4 +13,4 @@ pub mod History
 pub mod Book
 pub mod Demand3
 pub mod Claims
-pub mod HandCases
+pub mod ByHand

@@ -37,10 +37,14 @@ disksOf s area = record { labels = s .labels; area = area }
 abbrev pub ended : ℕ → ℕ → State → Disks → Power → List ℕ → Outcome
 ended refusal count s w power output = outcome refusal count (withDisks s (w .labels) power) (w .area) output
 
--- "If the list is longer than the supply, exactly the first supply stores are made, the cabinet is stopped, and the result is 15 with that count.
--- Otherwise all are made", and the cabinet runs with g.
+-- "exactly the first supply stores are made, the cabinet is stopped, and the result is 15 with that count"
+abbrev pub cutShort : List Store → ℕ → State → List ℕ → List ℕ → Outcome
+cutShort stores budget s area output = ended 15 budget s (applyAll (s .blocks) (made budget stores) (disksOf s area)) Stopped output
+
+-- "Otherwise all are made", and the cabinet runs with g
+abbrev pub whole : List Store → ℕ → State → List ℕ → List ℕ → Outcome
+whole stores g s area output = ended 0 (length stores) s (applyAll (s .blocks) stores (disksOf s area)) (Running g) output
+
+-- "If the list is longer than the supply"
 unfoldable pub carryOut : List Store → ℕ → ℕ → State → List ℕ → List ℕ → Outcome
-carryOut stores budget g s area output =
-    cond (ltb budget (length stores))
-    (ended 15 budget s (applyAll (s .blocks) (made budget stores) (disksOf s area)) Stopped output)
-    (ended 0 (length stores) s (applyAll (s .blocks) stores (disksOf s area)) (Running g) output)
+carryOut stores budget g s area output = cond (ltb budget (length stores)) (cutShort stores budget s area output) (whole stores g s area output)
