@@ -22,7 +22,8 @@ use Rattle.label.proofs.Order.{none-of}
 use Rattle.label.proofs.Accepting.{in-range}
 use Rattle.label.proofs.ReadWritten.{read-parts}
 use Rattle.protocol.specs.Geometry.{mostDisks, mostBlocks}
-use Rattle.protocol.specs.Soundness.{blank, labelAt, FitSet, FitLabel}
+use Rattle.protocol.specs.States.{blank, labelAt}
+use Rattle.protocol.specs.Soundness.{FitSet, FitLabel}
 use Rattle.protocol.specs.Saving.{slotReading, slotRefusals, assembleRefusals, assembled, assembleAnswer}
 use Rattle.protocol.specs.Claims.{Proper}
 use Rattle.protocol.proofs.Loops.{Each, nil, cons, each-ascending}

@@ -14,7 +14,7 @@ use Rattle.sets.proofs.Bounds.{member-below}
 use Rattle.sets.proofs.LowestMember.{lowest-has}
 use Rattle.label.specs.declared.Label.{Label}
 use Rattle.protocol.specs.Loops.{some}
-use Rattle.protocol.specs.Soundness.{labelAt, source}
+use Rattle.protocol.specs.States.{labelAt, source}
 use Rattle.protocol.specs.Naming.{Stage, first, second, third, Found, none, one, several, Backs, Candidate, Exactly, no-set, one-set, several-sets, Decides, here, further, nowhere, Names}
 use Rattle.protocol.proofs.Loops.{some-member, some-not}
 

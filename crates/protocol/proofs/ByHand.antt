@@ -6,7 +6,8 @@ use Rattle.label.specs.Refusals.{firstOf, outside, wrongSet, wrongSets}
 use Rattle.label.specs.Reading.{emptyField, readRefusals, readRefusal, judged, reading}
 use Rattle.protocol.specs.Geometry.{regionOf, regions, areaSize}
 use Rattle.protocol.specs.Loops.{ascending, forEach, allBelow, someBelow, every, some}
-use Rattle.protocol.specs.Soundness.{source, inRange, fitSet, fitLabel, isBlank, fitLabels, fitMember, fitPower, sound}
+use Rattle.protocol.specs.States.{source}
+use Rattle.protocol.specs.Soundness.{inRange, fitSet, fitLabel, isBlank, fitLabels, fitMember, fitPower, sound}
 use Rattle.protocol.specs.Stores.{apply, applyAll}
 use Rattle.protocol.specs.Lists.{commits, mends, restartList}
 use Rattle.protocol.specs.Naming.{backs, proposes, candidate, candidates, count, orElse, decide, named}

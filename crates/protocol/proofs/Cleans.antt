@@ -1,6 +1,6 @@
 -- A clean, cut anywhere, leaves disks that run as before: every member of the current set holds the book, so its dirty bits are not needed. Assumes nothing.
 use Prim.Native.Nat.{ℕ}
-use Rattle.protocol.specs.Soundness.{isDirty}
+use Rattle.protocol.specs.States.{isDirty}
 use Rattle.protocol.specs.declared.State.{State}
 use Rattle.protocol.specs.Stores.{Disks, Store, clear, apply, applyAll}
 use Rattle.protocol.specs.Lists.{cleanList}

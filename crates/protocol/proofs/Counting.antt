@@ -12,7 +12,7 @@ use Rattle.sets.proofs.LowestMember.{lowest-least}
 use Rattle.label.specs.declared.Label.{Label}
 use Rattle.protocol.specs.Geometry.{regionOf}
 use Rattle.protocol.specs.Loops.{forEach}
-use Rattle.protocol.specs.Soundness.{isDirty, source}
+use Rattle.protocol.specs.States.{isDirty, source}
 use Rattle.protocol.specs.Stores.{Store, write}
 use Rattle.protocol.specs.Lists.{marks, moveToLive, preparations, blockStores}
 use Rattle.protocol.specs.Book.{isBlockStore, include}

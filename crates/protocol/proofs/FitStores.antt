@@ -14,7 +14,8 @@ use Rattle.label.specs.declared.Label.{Label}
 use Rattle.protocol.specs.declared.State.{State}
 use Rattle.protocol.specs.Geometry.{mostDisks, regionSize, regions}
 use Rattle.protocol.specs.Loops.{some}
-use Rattle.protocol.specs.Soundness.{blank, labelAt, isDirty, FitSet, FitLabel, FitLabels, FitCurrent}
+use Rattle.protocol.specs.States.{blank, labelAt, isDirty}
+use Rattle.protocol.specs.Soundness.{FitSet, FitLabel, FitLabels, FitCurrent}
 use Rattle.protocol.specs.Stores.{Disks, Store, write, copy, mark, clear, propose, commit, withDirty, onLabel, apply, applyAll}
 use Rattle.protocol.specs.Lists.{proposals, commits, move, moveToLive, marks, blockStores, fill, cleanList, forBlocks, copies, clears, mend, mends}
 use Rattle.protocol.proofs.Loops.{Each, nil, cons, each-append, each-if, each-unless, each-ascending, each-member, each-map}

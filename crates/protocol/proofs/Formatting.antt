@@ -21,7 +21,8 @@ use Rattle.label.specs.Refusals.{firstOf}
 use Rattle.label.proofs.Order.{none-at}
 use Rattle.label.proofs.Accepting.{in-range}
 use Rattle.protocol.specs.Geometry.{mostDisks, mostBlocks, areaSize}
-use Rattle.protocol.specs.Soundness.{blank, labelAt, source, InRange}
+use Rattle.protocol.specs.States.{blank, labelAt, source}
+use Rattle.protocol.specs.Soundness.{InRange}
 use Rattle.protocol.specs.Naming.{second, Backs}
 use Rattle.protocol.specs.Calls.{formatRefusals, formatted, zeroArea, zeroState, formatOutcome}
 use Rattle.protocol.specs.History.{cabinetOf}

@@ -11,7 +11,7 @@ use Rattle.sets.proofs.Tests.{same-or-not}
 use Rattle.sets.specs.Sets.{has}
 use Rattle.sets.proofs.Bounds.{member-below}
 use Rattle.protocol.specs.Geometry.{blockSize, regionOf, areaSize, block, withBlock}
-use Rattle.protocol.specs.Soundness.{blank, labelAt, isDirty, source}
+use Rattle.protocol.specs.States.{blank, labelAt, isDirty, source}
 use Rattle.protocol.specs.Stores.{Disks, withDirty, onArea, onLabel}
 use Rattle.protocol.specs.Naming.{second, Backs}
 use Rattle.protocol.specs.Book.{Contents}

@@ -12,7 +12,7 @@ use Rattle.sets.specs.Sets.{has, union, singleton}
 use Rattle.sets.proofs.Operations.{has-union, has-singleton}
 use Rattle.sets.proofs.Bounds.{member-below, below-pow, below-with}
 use Rattle.sets.proofs.LowestMember.{non-empty}
-use Rattle.protocol.specs.Soundness.{source}
+use Rattle.protocol.specs.States.{source}
 use Rattle.protocol.specs.Stores.{Disks, Store, copy, apply, applyAll}
 use Rattle.protocol.specs.Lists.{move, moveToLive, fill}
 use Rattle.protocol.specs.Book.{Contents}

@@ -13,7 +13,7 @@ use Rattle.sets.specs.Sets.{has, union, singleton}
 use Rattle.sets.proofs.Tests.{and-parts, same-or-not}
 use Rattle.sets.proofs.Operations.{has-union, has-difference, has-singleton}
 use Rattle.label.specs.declared.Label.{Label}
-use Rattle.protocol.specs.Soundness.{blank, labelAt, isDirty}
+use Rattle.protocol.specs.States.{blank, labelAt, isDirty}
 use Rattle.protocol.specs.Stores.{Disks, Store, mark, clear, propose, commit, withDirty, apply, applyAll}
 use Rattle.protocol.specs.Lists.{proposals, commits, move, moveToLive}
 use Rattle.protocol.proofs.Loops.{Each, nil, cons, each-append, each-unless, each-member}

@@ -13,6 +13,7 @@ pub mod Soundness
 pub mod Refusals
 pub mod Passing
 pub mod Naming
+pub mod Finder
 -- what the labels of a cabinet back, and what its disks hold against the book
 pub mod Backing
 pub mod Moving

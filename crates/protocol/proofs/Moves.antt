@@ -11,7 +11,7 @@ use borrow.Author.Tests.{eqb-true}
 use Rattle.sets.specs.Sets.{has}
 use Rattle.sets.proofs.Bounds.{member-below, below-pow, below-inside}
 use Rattle.protocol.specs.Geometry.{areaSize}
-use Rattle.protocol.specs.Soundness.{labelAt, source}
+use Rattle.protocol.specs.States.{labelAt, source}
 use Rattle.protocol.specs.Stores.{Disks, Store, propose, commit, withCommitted, apply, applyAll}
 use Rattle.protocol.specs.Lists.{proposals, commits, move, moveToLive}
 use Rattle.protocol.specs.Book.{Contents}

@@ -11,7 +11,7 @@ use Rattle.sets.specs.Sets.{has}
 use Rattle.sets.proofs.Tests.{clash, same-or-not}
 use Rattle.sets.proofs.Membership.{has-empty}
 use Rattle.label.specs.declared.Label.{Label}
-use Rattle.protocol.specs.Soundness.{blank, labelAt}
+use Rattle.protocol.specs.States.{blank, labelAt}
 use Rattle.protocol.specs.Stores.{withTentative, withCommitted}
 use Rattle.protocol.specs.Naming.{second, Backs}
 use Rattle.protocol.proofs.Labels.{at-set}

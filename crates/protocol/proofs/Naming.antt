@@ -1,4 +1,4 @@
--- The function that names a restart's set gives the answer of the paper's sentences, and so does the finder. Assumes nothing.
+-- The function that names a restart's set gives the answer of the paper's sentences, and they have no other. Assumes nothing.
 use mathlib.Core.Path.{_≡_, refl, sym, ap, _∙_}
 use mathlib.Core.Logic.{_≢_, _⊎_, inl, inr}
 use mathlib.Core.Bool.{Bool, true, cond, or-true}
@@ -6,7 +6,7 @@ use mathlib.Core.List.{List, [], _∷_, _++_, append-nil}
 use Prim.Native.Nat.{ℕ, zero, suc, _^_, _<_}
 use native.Mathlib.Omega.{arith}
 use lib.Dec.{eqb, ltb}
-use borrow.Author.Tests.{ltb-true, lt-ltb, eqb-true, eq-eqb, ne-eqb}
+use borrow.Author.Tests.{ltb-true, lt-ltb, eqb-true, eq-eqb}
 use Rattle.sets.specs.Sets.{has, subset}
 use Rattle.sets.proofs.Tests.{Test, passes, fails, test, clash, and-parts, same-or-not, or-either}
 use Rattle.sets.proofs.Operations.{subset-members}
@@ -14,10 +14,10 @@ use Rattle.sets.proofs.Bounds.{member-below, below-pow, below-members}
 use Rattle.label.specs.declared.Label.{Label}
 use Rattle.protocol.specs.declared.State.{State}
 use Rattle.protocol.specs.Loops.{ascending, every, some}
-use Rattle.protocol.specs.Soundness.{labelAt, Sound}
+use Rattle.protocol.specs.States.{labelAt}
+use Rattle.protocol.specs.Soundness.{Sound}
 use Rattle.protocol.specs.Naming.{Stage, first, second, third, Found, none, one, several, Backs, Proposes, Candidate, Exactly, no-set, one-set, several-sets, Decides, here, further, nowhere, stages, Names, backs, proposes, candidate, candidates, count, orElse, decide, named, NamedAsDefined}
 use Rattle.protocol.specs.Calls.{foundBy}
-use Rattle.protocol.specs.Finder.{tried, another, among, find, FindsNamed}
 use Rattle.protocol.proofs.Loops.{every-at, every-of, some-member, some-is}
 
 -- ---- the test of a candidate
@@ -55,7 +55,7 @@ module _ (stage : Stage) (n online : ℕ) (labels : List Label) (known : online 
   abbrev IsCandidate : ℕ → Type 0
   IsCandidate x = candidate stage n online labels x ≡ true
 
-  candidate-if : (x : ℕ) → IsCandidate x → Candidate stage online labels x
+  pub candidate-if : (x : ℕ) → IsCandidate x → Candidate stage online labels x
   unfolding candidate
   candidate-if x e =
       let (p, e1) = and-parts (ltb 0 x) _ e in
@@ -70,10 +70,10 @@ module _ (stage : Stage) (n online : ℕ) (labels : List Label) (known : online 
         proposed = (d, m, proposes-if stage _ x z);
       }
 
-  candidate-below : (x : ℕ) → Candidate stage online labels x → (d : ℕ) → has x d ≡ true → d < n
+  pub candidate-below : (x : ℕ) → Candidate stage online labels x → (d : ℕ) → has x d ≡ true → d < n
   candidate-below x c d m = member-below online n d known (c .inside d m)
 
-  if-candidate : (x : ℕ) → Candidate stage online labels x → IsCandidate x
+  pub if-candidate : (x : ℕ) → Candidate stage online labels x → IsCandidate x
   unfolding candidate
   if-candidate x c =
       let (d, m, z) = c .proposed in
@@ -86,7 +86,7 @@ module _ (stage : Stage) (n online : ℕ) (labels : List Label) (known : online 
 
 -- ---- how many there are
 
-exactly-map : {P Q : ℕ → Type 0} {f : Found} → ((x : ℕ) → P x → Q x) → ((x : ℕ) → Q x → P x) → Exactly P f → Exactly Q f
+pub exactly-map : {P Q : ℕ → Type 0} {f : Found} → ((x : ℕ) → P x → Q x) → ((x : ℕ) → Q x → P x) → Exactly P f → Exactly Q f
 exactly-map to from (no-set h) = no-set (λ x q. h x (from x q))
 exactly-map to from (one-set {x} p u) = one-set (to x p) (λ y q. u y (from y q))
 exactly-map to from (several-sets {x} {y} p q ne) = several-sets (to x p) (to y q) ne
@@ -152,7 +152,7 @@ several-not-none e = absurd (let z : _≡_ {A = ℕ} 0 1 = cc in omega arith)
 
 -- what finds exactly the candidates of each stage gives the answer of these stages ..
 module _ (online : ℕ) (labels : List Label) (found : Stage → Found) (right : (stage : Stage) → Exactly (Candidate stage online labels) (found stage)) where
-  decided : (stages : List Stage) → Decides online labels stages (decide found stages)
+  pub decided : (stages : List Stage) → Decides online labels stages (decide found stages)
   unfolding decide orElse
   decided [] = nowhere
   decided (stage ∷ later) = go (found stage) (right stage) (decided later)
@@ -181,63 +181,3 @@ named-as-defined n online labels known =
 pub found-names : (s : State) → Sound s → Names (s .online) (s .labels) (foundBy s)
 unfolding foundBy
 found-names s fit = named-as-defined (s .disks) (s .online) (s .labels) (below-pow (s .online) (s .disks) .0 (fit .online)) .answers
-
--- ---- the finder
-
-module _ (n online : ℕ) (labels : List Label) (known : online < 2 ^ n) (stage : Stage) where
-  abbrev triedAt : ℕ → ℕ
-  triedAt i = tried stage (labelAt labels i)
-
-  abbrev Tried : ℕ → ℕ → Type 0
-  Tried i x = (j : ℕ) × (j < i) × (triedAt j ≡ x) × (candidate stage n online labels x ≡ true)
-
-  more-tried : (i x : ℕ) → Tried i x → Tried (suc i) x
-  more-tried i x (j, l, e, c) = (j, omega arith, e, c)
-
-  last-tried : (i x : ℕ) → Tried (suc i) x → (x ≡ triedAt i) ⊎ Tried i x
-  last-tried i x (j, l, e, c) = go (same-or-not j i)
-    where
-      go : (j ≡ i) ⊎ (j ≢ i) → (x ≡ triedAt i) ⊎ Tried i x
-      go (inl q) = inl (sym e ∙ ap triedAt q)
-      go (inr q) = inr (j, omega arith, e, c)
-
-  one-more : (i : ℕ) {f : Found} → candidate stage n online labels (triedAt i) ≡ true → Exactly (Tried i) f → Exactly (Tried (suc i)) (another f (triedAt i))
-  unfolding another
-  one-more i c (no-set h) = one-set (i, omega arith, refl, c) (λ y t. elim (last-tried i y t) [ inl q ↦ q | inr u ↦ absurd (h y u) ])
-  one-more i c (several-sets {x} {y} p q ne) = several-sets (more-tried i x p) (more-tried i y q) ne
-  one-more i c (one-set {x} p u) = go (same-or-not x (triedAt i))
-    where
-      go : (x ≡ triedAt i) ⊎ (x ≢ triedAt i) → Exactly (Tried (suc i)) (cond (eqb x (triedAt i)) (one x) several)
-      go (inl q) = rw (eq-eqb x (triedAt i) q) (one-set (more-tried i x p) (λ y t. elim (last-tried i y t) [ inl r ↦ r ∙ sym q | inr v ↦ u y v ]))
-      go (inr q) = rw (ne-eqb x (triedAt i) q) (several-sets (more-tried i x p) (i, omega arith, refl, c) q)
-
-  among-tried : (i : ℕ) → Exactly (Tried i) (among stage n online labels i)
-  unfolding among
-  among-tried zero = no-set (λ x (j, l, e, c). omega arith)
-  among-tried (suc i) = go (among-tried i) (test (candidate stage n online labels (triedAt i)))
-    where
-      go : Exactly (Tried i) (among stage n online labels i) → Test (candidate stage n online labels (triedAt i))
-          → Exactly (Tried (suc i)) (cond (candidate stage n online labels (triedAt i)) (another (among stage n online labels i) (triedAt i)) (among stage n online labels i))
-      go h (passes e) = rw e (one-more i e h)
-      go h (fails e) = rw e (exactly-map (more-tried i) (λ x t. elim (last-tried i x t) [ inl q ↦ clash (rw q at (t .3)) e | inr u ↦ u ]) h)
-
-  -- every candidate is one that some member's label has
-  is-tried : (x : ℕ) → Candidate stage online labels x → Tried n x
-  unfolding tried
-  is-tried x c =
-      let (d, m, z) = c .proposed in
-      (d, candidate-below stage n online labels known x c d m, has-it stage (labelAt labels d) (c .each d m) z, if-candidate stage n online labels known x c)
-    where
-      has-it : (stage : Stage) (l : Label) → Backs stage l x → Proposes stage l x → tried stage l ≡ x
-      has-it first l e z = e
-      has-it second l e z = z
-      has-it third l e z = e
-
-  among-right : Exactly (Candidate stage online labels) (among stage n online labels n)
-  among-right = exactly-map (λ x (j, l, e, c). candidate-if stage n online labels known x c) is-tried (among-tried n)
-
-pub finds-named : FindsNamed
-unfolding find
-finds-named n online labels known =
-    named-as-defined n online labels known .only _
-    (decided online labels (λ stage. among stage n online labels n) (among-right n online labels known) stages)

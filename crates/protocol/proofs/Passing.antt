@@ -15,7 +15,8 @@ use Rattle.protocol.specs.declared.Power.{Power}
 use Rattle.protocol.specs.declared.Power.the-variants.{Stopped, Running}
 use Rattle.protocol.specs.declared.State.{State}
 use Rattle.protocol.specs.Geometry.{blockSize}
-use Rattle.protocol.specs.Soundness.{isRunning, live, Sound, sound}
+use Rattle.protocol.specs.States.{isRunning, live}
+use Rattle.protocol.specs.Soundness.{Sound, sound}
 use Rattle.protocol.specs.Stores.{Store}
 use Rattle.protocol.specs.Naming.{Found, none, one, several}
 use Rattle.protocol.specs.Outcomes.{Outcome, outcome, refusedOr, cutShort, whole, carryOut}

@@ -10,7 +10,7 @@ use Rattle.label.specs.Refusals.{firstOf}
 use Rattle.protocol.specs.declared.Power.{Power}
 use Rattle.protocol.specs.declared.Power.the-variants.{Stopped, Running}
 use Rattle.protocol.specs.Geometry.{block}
-use Rattle.protocol.specs.Soundness.{currentOf, live, source}
+use Rattle.protocol.specs.States.{currentOf, live, source}
 use Rattle.protocol.specs.Calls.{blockRefusals, readOutcome}
 use Rattle.protocol.specs.History.{perform}
 use Rattle.protocol.specs.Book.{Book, carriedBy, entered, noted}

@@ -11,7 +11,8 @@ use Rattle.sets.specs.Sets.{all}
 use Rattle.label.specs.Refusals.{firstOf}
 use Rattle.protocol.specs.declared.Power.the-variants.{Stopped, Running}
 use Rattle.protocol.specs.declared.State.{State}
-use Rattle.protocol.specs.Soundness.{sound, isRunning}
+use Rattle.protocol.specs.States.{isRunning}
+use Rattle.protocol.specs.Soundness.{sound}
 use Rattle.protocol.specs.Stores.{Store}
 use Rattle.protocol.specs.Lists.{restartList}
 use Rattle.protocol.specs.Naming.{Found, none, one, several, Names}

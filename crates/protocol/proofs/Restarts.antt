@@ -14,7 +14,7 @@ use Rattle.sets.proofs.Bounds.{member-below}
 use Rattle.label.specs.declared.Label.{Label}
 use Rattle.protocol.specs.Geometry.{regionSize, regionOf, regions}
 use Rattle.protocol.specs.Loops.{forEach, some}
-use Rattle.protocol.specs.Soundness.{labelAt, isDirty, source}
+use Rattle.protocol.specs.States.{labelAt, isDirty, source}
 use Rattle.protocol.specs.Stores.{Disks, Store, copy, clear, apply, applyAll}
 use Rattle.protocol.specs.Lists.{commits, forBlocks, copies, clears, mend, mends}
 use Rattle.protocol.specs.Book.{Contents}

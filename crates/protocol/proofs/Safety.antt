@@ -15,7 +15,7 @@ use Rattle.protocol.specs.declared.Power.the-variants.{Stopped, Running}
 use Rattle.protocol.specs.declared.State.{State}
 use Rattle.protocol.specs.declared.Call.{Call}
 use Rattle.protocol.specs.declared.Call.the-variants.{Read, Write, Join, Clean, Restart, Detach, Attach, PowerOff}
-use Rattle.protocol.specs.Soundness.{currentOf, live}
+use Rattle.protocol.specs.States.{currentOf, live}
 use Rattle.protocol.specs.Stores.{Disks, Store, applyAll}
 use Rattle.protocol.specs.Lists.{writeList, joinList, cleanList, restartList}
 use Rattle.protocol.specs.Naming.{Found, none, one, several, Names}
@@ -65,63 +65,63 @@ module _ (c : Contents) (s : State) (area output : List ℕ) where
   w = disksOf s area
 
   -- the state with a power condition that is looked at
-  abbrev at : Power → State
-  at p = withDisks s (s .labels) p
+  abbrev withPower : Power → State
+  withPower p = withDisks s (s .labels) p
 
   -- what is live of a running cabinet are members of its current set
-  inside : (g d : ℕ) → has (live (at (Running g))) d ≡ true → has g d ≡ true
+  inside : (g d : ℕ) → has (live (withPower (Running g))) d ≡ true → has g d ≡ true
   inside g d m = and-parts (has g d) (has (s .online) d) (sym (has-intersection g (s .online) d) ∙ m) .0
 
-  write-safe : (k budget : ℕ) (bytes : List ℕ) (p : Power) → Held (s .disks) (s .blocks) c w p → firstOf (blockRefusals (at p) area k bytes) ≡ 0
-      → SafeAfter (entered (carriedBy (Write k budget) bytes (record { state = at p; area = area })) c) (carryOut (writeList (at p) k bytes) budget (live (at p)) (at p) area output)
+  write-safe : (k budget : ℕ) (bytes : List ℕ) (p : Power) → Held (s .disks) (s .blocks) c w p → firstOf (blockRefusals (withPower p) area k bytes) ≡ 0
+      → SafeAfter (entered (carriedBy (Write k budget) bytes (record { state = withPower p; area = area })) c) (carryOut (writeList (withPower p) k bytes) budget (live (withPower p)) (withPower p) area output)
   unfolding writeList carriedBy entered counts
-  write-safe k budget bytes Stopped h e = absurd (block-passed (at Stopped) area k bytes e .power)
+  write-safe k budget bytes Stopped h e = absurd (block-passed (withPower Stopped) area k bytes e .power)
   write-safe k budget bytes (Running g) h e =
-      let pass = block-passed (at (Running g)) area k bytes e in
-      let l = live (at (Running g)) in
+      let pass = block-passed (withPower (Running g)) area k bytes e in
+      let l = live (withPower (Running g)) in
       let known = live-known (s .disks) (s .blocks) c g l w h (pass .some) (inside g) in
       rw (eq-eqb _ 0 e)
-      (cut-or-whole (writeList (at (Running g)) k bytes) budget l (at (Running g)) area output (SafeAfter _)
+      (cut-or-whole (writeList (withPower (Running g)) k bytes) budget l (withPower (Running g)) area output (SafeAfter _)
       (λ q. record { held = write-cut (s .disks) (s .blocks) c g l w h (pass .some) (inside g) k (pass .known) bytes (pass .full) budget })
       (λ q. record {
         held = rw (take-all budget _ q, write-counts (s .disks) l k bytes (s .labels) g (pass .some) known)
             (write-done (s .disks) (s .blocks) c g l w h (pass .some) (inside g) k (pass .known) bytes (pass .full));
       }))
 
-  join-safe : (d budget : ℕ) (p : Power) → Held (s .disks) (s .blocks) c w p → firstOf (joinRefusals (at p) area d) ≡ 0
-      → SafeAfter c (carryOut (joinList (at p) d) budget (union (live (at p)) (singleton d)) (at p) area output)
+  join-safe : (d budget : ℕ) (p : Power) → Held (s .disks) (s .blocks) c w p → firstOf (joinRefusals (withPower p) area d) ≡ 0
+      → SafeAfter c (carryOut (joinList (withPower p) d) budget (union (live (withPower p)) (singleton d)) (withPower p) area output)
   unfolding joinList
-  join-safe d budget Stopped h e = absurd (join-passed (at Stopped) area d e .power)
+  join-safe d budget Stopped h e = absurd (join-passed (withPower Stopped) area d e .power)
   join-safe d budget (Running g) h e =
-      let pass = join-passed (at (Running g)) area d e in
-      let l = live (at (Running g)) in
-      carried c (at (Running g)) area output (joinList (at (Running g)) d) budget (union l (singleton d))
+      let pass = join-passed (withPower (Running g)) area d e in
+      let l = live (withPower (Running g)) in
+      carried c (withPower (Running g)) area output (joinList (withPower (Running g)) d) budget (union l (singleton d))
       (join-cut (s .disks) (s .blocks) c g l w h (pass .some) (inside g) d (pass .known))
       (join-done (s .disks) (s .blocks) c g l w h (pass .some) (inside g) d (pass .known))
 
-  clean-safe : (budget : ℕ) (p : Power) → Held (s .disks) (s .blocks) c w p → firstOf (cleanRefusals (at p)) ≡ 0
-      → SafeAfter c (carryOut (cleanList (at p)) budget (currentOf p) (at p) area output)
-  clean-safe budget Stopped h e = absurd (clean-passed (at Stopped) e)
+  clean-safe : (budget : ℕ) (p : Power) → Held (s .disks) (s .blocks) c w p → firstOf (cleanRefusals (withPower p)) ≡ 0
+      → SafeAfter c (carryOut (cleanList (withPower p)) budget (currentOf p) (withPower p) area output)
+  clean-safe budget Stopped h e = absurd (clean-passed (withPower Stopped) e)
   clean-safe budget (Running g) h e =
-      carried c (at (Running g)) area output (cleanList (at (Running g))) budget g
-      (clean-cut (s .disks) (s .blocks) c (at (Running g)) g w h) (clean-done (s .disks) (s .blocks) c (at (Running g)) g w h)
+      carried c (withPower (Running g)) area output (cleanList (withPower (Running g))) budget g
+      (clean-cut (s .disks) (s .blocks) c (withPower (Running g)) g w h) (clean-done (s .disks) (s .blocks) c (withPower (Running g)) g w h)
 
   -- ---- restart
 
-  restart-safe : (budget : ℕ) (p : Power) → Held (s .disks) (s .blocks) c w p → firstOf (restartRefusals (at p) area) ≡ 0
-      → SafeAfter c (carryOut (restartList (at p) (theSet (foundBy (at p)))) budget (theSet (foundBy (at p))) (at p) area output)
+  restart-safe : (budget : ℕ) (p : Power) → Held (s .disks) (s .blocks) c w p → firstOf (restartRefusals (withPower p) area) ≡ 0
+      → SafeAfter c (carryOut (restartList (withPower p) (theSet (foundBy (withPower p)))) budget (theSet (foundBy (withPower p))) (withPower p) area output)
   unfolding restartList
-  restart-safe budget (Running g) h e = absurd (restart-passed (at (Running g)) area e .power)
+  restart-safe budget (Running g) h e = absurd (restart-passed (withPower (Running g)) area e .power)
   restart-safe budget Stopped h e =
-      let pass = restart-passed (at Stopped) area e in
-      go (foundBy (at Stopped)) (pass .names) (found-names (at Stopped) (pass .fit))
+      let pass = restart-passed (withPower Stopped) area e in
+      go (foundBy (withPower Stopped)) (pass .names) (found-names (withPower Stopped) (pass .fit))
     where
       go : (f : Found) → NamesOne f → Names (s .online) (s .labels) f
-          → SafeAfter c (carryOut (restartList (at Stopped) (theSet f)) budget (theSet f) (at Stopped) area output)
+          → SafeAfter c (carryOut (restartList (withPower Stopped) (theSet f)) budget (theSet f) (withPower Stopped) area output)
       go none z names = absurd z
       go several z names = absurd z
       go (one x) z names =
-          carried c (at Stopped) area output (restartList (at Stopped) x) budget x
+          carried c (withPower Stopped) area output (restartList (withPower Stopped) x) budget x
           (restart-cut (s .disks) (s .blocks) c x (s .labels) w h (found-backed names) refl)
           (restart-done (s .disks) (s .blocks) c x (s .labels) w h (found-backed names) refl)
 

@@ -22,7 +22,8 @@ use Rattle.label.proofs.Codec.{narrow-codec}
 use Rattle.protocol.specs.declared.State.{State}
 use Rattle.protocol.specs.Geometry.{mostDisks, mostBlocks, regions}
 use Rattle.protocol.specs.Loops.{ascending}
-use Rattle.protocol.specs.Soundness.{blank, labelAt, InRange, FitLabel, Sound}
+use Rattle.protocol.specs.States.{blank, labelAt}
+use Rattle.protocol.specs.Soundness.{InRange, FitLabel, Sound}
 use Rattle.protocol.specs.Outcomes.{refusedOr}
 use Rattle.protocol.specs.Saving.{slotSize, slotBytes, saveOutcome, slotReading, slotRefusals, assembleRefusals, assembled, assembleAnswer, SavedAssembles}
 use Rattle.protocol.proofs.Loops.{Each, each-ascending}

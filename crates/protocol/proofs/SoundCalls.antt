@@ -17,7 +17,8 @@ use Rattle.protocol.specs.declared.State.{State}
 use Rattle.protocol.specs.declared.Call.{Call}
 use Rattle.protocol.specs.declared.Call.the-variants.{Read, Write, Join, Clean, Restart, Detach, Attach, PowerOff}
 use Rattle.protocol.specs.Geometry.{mostDisks, regionOf, regions}
-use Rattle.protocol.specs.Soundness.{currentOf, live, source, InRange, FitLabel, FitCurrent, FitPower}
+use Rattle.protocol.specs.States.{currentOf, live, source}
+use Rattle.protocol.specs.Soundness.{InRange, FitLabel, FitCurrent, FitPower}
 use Rattle.protocol.specs.Stores.{Disks, Store, applyAll}
 use Rattle.protocol.specs.Lists.{moveToLive, preparations, marks, blockStores, fill, mends, writeList, joinList, cleanList, restartList}
 use Rattle.protocol.specs.Naming.{Found, none, one, several, Names}

@@ -15,7 +15,8 @@ use Rattle.protocol.specs.declared.Power.{Power}
 use Rattle.protocol.specs.declared.Power.the-variants.{Stopped, Running}
 use Rattle.protocol.specs.Geometry.{mostDisks, mostBlocks, regions}
 use Rattle.protocol.specs.Loops.{allBelow}
-use Rattle.protocol.specs.Soundness.{blank, labelAt, InRange, FitSet, FitLabel, FitLabels, FitPower, inRange, fitSet, fitLabel, isBlank, fitLabels, fitMember, fitPower, sound, TestAgrees}
+use Rattle.protocol.specs.States.{blank, labelAt}
+use Rattle.protocol.specs.Soundness.{InRange, FitSet, FitLabel, FitLabels, FitPower, inRange, fitSet, fitLabel, isBlank, fitLabels, fitMember, fitPower, sound, TestAgrees}
 use Rattle.protocol.proofs.Loops.{all-at, all-of}
 
 in-range : (n b : ℕ) → (inRange n b ≡ true) ↔ InRange n b

@@ -10,7 +10,7 @@ use Rattle.sets.proofs.Bounds.{below-pow, below-intersection}
 use Rattle.sets.proofs.Cardinality.{size-members}
 use Rattle.label.specs.declared.Label.{Label}
 use Rattle.protocol.specs.Geometry.{regionOf}
-use Rattle.protocol.specs.Soundness.{isDirty, currentOf, live}
+use Rattle.protocol.specs.States.{isDirty, currentOf, live}
 use Rattle.protocol.specs.Stores.{mark, propose, commit}
 use Rattle.protocol.specs.Lists.{proposals, commits, move, moveToLive, marks, blockStores, preparations, writeList}
 use Rattle.protocol.specs.Claims.{WriteBound}

@@ -14,7 +14,7 @@ use Rattle.sets.proofs.Bounds.{member-below}
 use Rattle.label.specs.declared.Label.{Label}
 use Rattle.protocol.specs.Geometry.{blockSize, regionOf, areaSize, block}
 use Rattle.protocol.specs.Loops.{forEach}
-use Rattle.protocol.specs.Soundness.{isDirty, source}
+use Rattle.protocol.specs.States.{isDirty, source}
 use Rattle.protocol.specs.Stores.{Disks, Store, write, mark, apply, applyAll}
 use Rattle.protocol.specs.Lists.{moveToLive, marks, preparations, blockStores}
 use Rattle.protocol.specs.Book.{Contents, replaced, include}

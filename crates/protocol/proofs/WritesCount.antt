@@ -11,7 +11,7 @@ use borrow.Author.Tests.{eq-eqb, ne-eqb}
 use Rattle.sets.proofs.Tests.{same-or-not}
 use Rattle.sets.proofs.Bounds.{below-pow, below-intersection}
 use Rattle.label.specs.Refusals.{firstOf}
-use Rattle.protocol.specs.Soundness.{currentOf, live, source}
+use Rattle.protocol.specs.States.{currentOf, live, source}
 use Rattle.protocol.specs.Stores.{Store}
 use Rattle.protocol.specs.Lists.{preparations, blockStores, writeList}
 use Rattle.protocol.specs.Outcomes.{Outcome}

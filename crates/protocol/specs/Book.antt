@@ -8,7 +8,7 @@ use Rattle.label.specs.Refusals.{firstOf}
 use Rattle.protocol.specs.declared.Call.{Call}
 use Rattle.protocol.specs.declared.Call.the-variants.{Read, Write, Join, Clean, Restart, Detach, Attach, PowerOff}
 use Rattle.protocol.specs.Geometry.{blockSize}
-use Rattle.protocol.specs.Soundness.{live, source}
+use Rattle.protocol.specs.States.{live, source}
 use Rattle.protocol.specs.Stores.{Store, write, copy, mark, clear, propose, commit, made}
 use Rattle.protocol.specs.Lists.{writeList}
 use Rattle.protocol.specs.Calls.{blockRefusals, formatted, zeroArea}

@@ -10,7 +10,7 @@ use Rattle.label.specs.Reading.{reading, found}
 use Rattle.protocol.specs.declared.Power.the-variants.{Stopped}
 use Rattle.protocol.specs.declared.State.{State}
 use Rattle.protocol.specs.Geometry.{mostDisks}
-use Rattle.protocol.specs.Soundness.{blank, currentOf}
+use Rattle.protocol.specs.States.{blank, currentOf}
 use Rattle.protocol.specs.Outcomes.{Outcome}
 use Rattle.protocol.specs.Calls.{zeroArea, restartOutcome}
 

@@ -11,7 +11,8 @@ use Rattle.label.specs.Refusals.{outside}
 use Rattle.protocol.specs.declared.Power.the-variants.{Stopped, Running}
 use Rattle.protocol.specs.declared.State.{State}
 use Rattle.protocol.specs.Geometry.{mostDisks, mostBlocks, blockSize, areaSize, block}
-use Rattle.protocol.specs.Soundness.{blank, currentOf, isRunning, live, source, sound}
+use Rattle.protocol.specs.States.{blank, currentOf, isRunning, live, source}
+use Rattle.protocol.specs.Soundness.{sound}
 use Rattle.protocol.specs.Lists.{writeList, joinList, cleanList, restartList}
 use Rattle.protocol.specs.Naming.{Found, none, one, several, named}
 use Rattle.protocol.specs.Outcomes.{Outcome, outcome, refusedOr, carryOut}

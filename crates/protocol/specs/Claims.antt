@@ -8,7 +8,8 @@ use Rattle.sets.specs.Sets.{size}
 use Rattle.protocol.specs.declared.Call.the-variants.{Read, Write}
 use Rattle.protocol.specs.declared.State.{State}
 use Rattle.protocol.specs.Geometry.{mostDisks}
-use Rattle.protocol.specs.Soundness.{currentOf, live, Sound}
+use Rattle.protocol.specs.States.{currentOf, live}
+use Rattle.protocol.specs.Soundness.{Sound}
 use Rattle.protocol.specs.Lists.{preparations, writeList}
 use Rattle.protocol.specs.Calls.{formatOutcome, writeOutcome}
 use Rattle.protocol.specs.Saving.{saveOutcome, assembleAnswer}

@@ -6,7 +6,7 @@ use mathlib.Core.List.{List}
 use Prim.Native.Nat.{ℕ, zero, suc, _^_, _<_}
 use lib.Dec.{eqb}
 use Rattle.label.specs.declared.Label.{Label}
-use Rattle.protocol.specs.Soundness.{labelAt}
+use Rattle.protocol.specs.States.{labelAt}
 use Rattle.protocol.specs.Naming.{Stage, first, second, third, Found, none, one, several, candidate, stages, decide, named}
 
 -- the set that a stage tries for a disk

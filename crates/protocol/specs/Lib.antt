@@ -1,6 +1,7 @@
 -- Document 01 as definitions, in its order.
 pub mod Geometry
 pub mod Loops
+pub mod States
 pub mod Soundness
 pub mod Stores
 pub mod Lists

@@ -8,7 +8,7 @@ use Rattle.label.specs.declared.Label.{Label}
 use Rattle.protocol.specs.declared.State.{State}
 use Rattle.protocol.specs.Geometry.{regionSize, regionOf, regions}
 use Rattle.protocol.specs.Loops.{ascending, forEach, some}
-use Rattle.protocol.specs.Soundness.{isDirty, currentOf, live, source}
+use Rattle.protocol.specs.States.{isDirty, currentOf, live, source}
 use Rattle.protocol.specs.Stores.{Store, write, copy, mark, clear, propose, commit}
 
 -- ---- moving to a set

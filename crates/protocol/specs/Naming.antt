@@ -8,7 +8,7 @@ use lib.Dec.{eqb, ltb}
 use Rattle.sets.specs.Sets.{has, subset}
 use Rattle.label.specs.declared.Label.{Label}
 use Rattle.protocol.specs.Loops.{ascending, every, some}
-use Rattle.protocol.specs.Soundness.{labelAt}
+use Rattle.protocol.specs.States.{labelAt}
 
 pub data Stage : Type 0 where
   first second third : Stage

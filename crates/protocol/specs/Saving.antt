@@ -17,7 +17,8 @@ use Rattle.protocol.specs.declared.State.{State}
 use Rattle.protocol.specs.declared.Answer.{Answer}
 use Rattle.protocol.specs.Geometry.{mostDisks, regions}
 use Rattle.protocol.specs.Loops.{ascending}
-use Rattle.protocol.specs.Soundness.{blank, labelAt, Sound}
+use Rattle.protocol.specs.States.{blank, labelAt}
+use Rattle.protocol.specs.Soundness.{Sound}
 use Rattle.protocol.specs.Outcomes.{Outcome, outcome, refusedOr}
 use Rattle.protocol.specs.Calls.{unsound, wrongBlockCount, zeroState, poweredOff}
 

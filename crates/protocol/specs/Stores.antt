@@ -5,7 +5,7 @@ use lib.ListN.{set, take}
 use Rattle.sets.specs.Sets.{union, difference, singleton}
 use Rattle.label.specs.declared.Label.{Label}
 use Rattle.protocol.specs.Geometry.{block, withBlock}
-use Rattle.protocol.specs.Soundness.{labelAt}
+use Rattle.protocol.specs.States.{labelAt}
 
 -- What stores change: the labels and the disk area.
 pub record Disks : Type 0 where
