@@ -25,15 +25,22 @@ wrongArea n b area = not (eqb (length area) (areaSize n b))
 abbrev pub notBlock : List ℕ → Bool
 notBlock bytes = not (eqb (length bytes) blockSize)
 
-abbrev pub noneLive : State → Bool
-noneLive s = eqb (live s) 0
-
 -- "Every call that takes a state: 1, the state is not sound. Then, where it takes the disk area (read, write, join, restart): 2, its length is wrong."
 abbrev pub unsound : State → ℕ × Bool
 unsound s = (1, not (sound s))
 
 abbrev pub areaUnfit : State → List ℕ → ℕ × Bool
 areaUnfit s area = (2, wrongArea (s .disks) (s .blocks) area)
+
+-- those that several paragraphs have: "6, stopped", "8, d is not below n", "12, L is empty"
+abbrev pub stopped : State → ℕ × Bool
+stopped s = (6, not (isRunning (s .power)))
+
+abbrev pub noSuchDisk : State → ℕ → ℕ × Bool
+noSuchDisk s d = (8, not (ltb d (s .disks)))
+
+abbrev pub noneLive : State → ℕ × Bool
+noneLive s = (12, eqb (live s) 0)
 
 -- ---- fresh
 
@@ -73,7 +80,13 @@ formatOutcome area output n b =
 -- "Write: 3, the data is not 64 bytes. 6. 9. 12. 15."
 unfoldable pub blockRefusals : State → List ℕ → ℕ → List ℕ → List (ℕ × Bool)
 blockRefusals s area k bytes =
-    unsound s ∷ areaUnfit s area ∷ (3, notBlock bytes) ∷ (6, not (isRunning (s .power))) ∷ (9, not (ltb k (s .blocks))) ∷ (12, noneLive s) ∷ []
+    unsound s ∷
+    areaUnfit s area ∷
+    (3, notBlock bytes) ∷
+    stopped s ∷
+    (9, not (ltb k (s .blocks))) ∷
+    noneLive s ∷
+    []
 
 -- "Read copies block k from the lowest member of L."
 unfoldable pub readOutcome : State → List ℕ → List ℕ → ℕ → Outcome
@@ -89,8 +102,14 @@ writeOutcome s area output k bytes budget =
 -- "Join: 6. 8, d is not below n. 10, d is out of reach. 11, d is in G. 12. 15."
 unfoldable pub joinRefusals : State → List ℕ → ℕ → List (ℕ × Bool)
 joinRefusals s area d =
-    unsound s ∷ areaUnfit s area ∷ (6, not (isRunning (s .power))) ∷ (8, not (ltb d (s .disks)))
-    ∷ (10, not (has (s .online) d)) ∷ (11, has (currentOf (s .power)) d) ∷ (12, noneLive s) ∷ []
+    unsound s ∷
+    areaUnfit s area ∷
+    stopped s ∷
+    noSuchDisk s d ∷
+    (10, not (has (s .online) d)) ∷
+    (11, has (currentOf (s .power)) d) ∷
+    noneLive s ∷
+    []
 
 unfoldable pub joinOutcome : State → List ℕ → List ℕ → ℕ → ℕ → Outcome
 joinOutcome s area output d budget =
@@ -100,7 +119,7 @@ joinOutcome s area output d budget =
 
 -- "Quiet: 6. 12. 15."
 unfoldable pub cleanRefusals : State → List (ℕ × Bool)
-cleanRefusals s = unsound s ∷ (6, not (isRunning (s .power))) ∷ (12, noneLive s) ∷ []
+cleanRefusals s = unsound s ∷ stopped s ∷ noneLive s ∷ []
 
 unfoldable pub cleanOutcome : State → List ℕ → List ℕ → ℕ → Outcome
 cleanOutcome s area output budget =
@@ -131,7 +150,12 @@ foundBy s = named (s .disks) (s .online) (s .labels)
 -- "Restart: 7, running. 13. 14. 15."
 unfoldable pub restartRefusals : State → List ℕ → List (ℕ × Bool)
 restartRefusals s area =
-    unsound s ∷ areaUnfit s area ∷ (7, isRunning (s .power)) ∷ (13, isNone (foundBy s)) ∷ (14, isSeveral (foundBy s)) ∷ []
+    unsound s ∷
+    areaUnfit s area ∷
+    (7, isRunning (s .power)) ∷
+    (13, isNone (foundBy s)) ∷
+    (14, isSeveral (foundBy s)) ∷
+    []
 
 unfoldable pub restartOutcome : State → List ℕ → List ℕ → ℕ → Outcome
 restartOutcome s area output budget =
@@ -149,7 +173,7 @@ poweredOff s = record { disks = s .disks; blocks = s .blocks; labels = s .labels
 
 -- "Lose and return: 8. Cut: none of its own."
 unfoldable pub plugRefusals : State → ℕ → List (ℕ × Bool)
-plugRefusals s d = unsound s ∷ (8, not (ltb d (s .disks))) ∷ []
+plugRefusals s d = unsound s ∷ noSuchDisk s d ∷ []
 
 unfoldable pub detachOutcome : State → List ℕ → List ℕ → ℕ → Outcome
 detachOutcome s area output d =
