@@ -1,9 +1,13 @@
--- Refusals none of which applies. Assumes nothing.
-use mathlib.Core.Path.{_≡_, refl}
-use mathlib.Core.Bool.{Bool, true, false}
-use mathlib.Core.List.{List}
+-- Paragraphs of refusals: where none applies, and where one number is not given. Assumes nothing.
+use mathlib.Core.Path.{_≡_, refl, sym, _∙_}
+use mathlib.Core.Logic.{_≢_}
+use mathlib.Core.Bool.{Bool, true, false, not, cond, _&&_, _||_, or-false}
+use mathlib.Core.List.{List, [], _∷_}
 use Prim.Native.Nat.{ℕ, _<_}
 use native.Mathlib.Omega.{arith}
+use lib.Dec.{eqb}
+use borrow.Author.Tests.{eq-eqb, not-true}
+use Rattle.sets.proofs.Tests.{clash, and-parts}
 use Rattle.label.specs.Refusals.{firstOf}
 use Rattle.protocol.proofs.Loops.{Each, nil, cons}
 
@@ -27,3 +31,19 @@ unfolding firstOf
 none-applies nil e = nil
 none-applies (cons {x = (number, true)} p ps) e = absurd (omega (arith, p refl))
 none-applies (cons {x = (number, false)} p ps) e = cons refl (none-applies ps e)
+
+-- ---- a number that is not given
+
+-- no refusal that has this number applies
+abbrev pub lacks : ℕ → List (ℕ × Bool) → Bool
+lacks number [] = true
+lacks number (refusal ∷ later) = (not (eqb (refusal .0) number) || not (refusal .1)) && lacks number later
+
+pub not-given : (number : ℕ) → 0 < number → (refusals : List (ℕ × Bool)) → lacks number refusals ≡ true → firstOf refusals ≢ number
+unfolding firstOf
+not-given number h [] e z = omega arith
+not-given number h ((other, unfit) ∷ later) e z = let (p, q) = and-parts _ _ e in go unfit p (not-given number h later q) z
+  where
+    go : (t : Bool) → (not (eqb other number) || not t) ≡ true → firstOf later ≢ number → cond t other (firstOf later) ≢ number
+    go true p ih z = clash (eq-eqb other number z) (not-true _ (sym (or-false (not (eqb other number))) ∙ p))
+    go false p ih z = ih z

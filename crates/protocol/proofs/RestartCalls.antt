@@ -1,10 +1,11 @@
 -- What a restart of a cabinet gives that holds what the invariant asks: never 14, and a set where all disks are in reach. Assumes nothing.
 use mathlib.Core.Path.{_≡_, refl, ap, subst}
 use mathlib.Core.Logic.{_≢_}
-use mathlib.Core.Bool.{Bool, true, false, not, cond}
+use mathlib.Core.Bool.{false}
 use mathlib.Core.List.{List}
 use Prim.Native.Nat.{ℕ, _≤_}
 use native.Mathlib.Omega.{arith}
+use lib.Dec.{lit<}
 use lib.ListN.{length}
 use borrow.Author.Tests.{eq-eqb, le-ltb}
 use Rattle.sets.specs.Sets.{all}
@@ -12,16 +13,16 @@ use Rattle.label.specs.Refusals.{firstOf}
 use Rattle.protocol.specs.declared.Power.the-variants.{Stopped, Running}
 use Rattle.protocol.specs.declared.State.{State}
 use Rattle.protocol.specs.States.{isRunning}
-use Rattle.protocol.specs.Soundness.{sound}
 use Rattle.protocol.specs.Stores.{Store}
 use Rattle.protocol.specs.Lists.{restartList}
 use Rattle.protocol.specs.Naming.{Found, none, one, several, Names}
 use Rattle.protocol.specs.Outcomes.{Outcome, disksOf, refusedOr, carryOut}
-use Rattle.protocol.specs.Calls.{wrongArea, isNone, isSeveral, theSet, foundBy, restartRefusals, restartOutcome}
+use Rattle.protocol.specs.Calls.{isSeveral, theSet, foundBy, restartRefusals, restartOutcome}
 use Rattle.protocol.specs.History.{Cabinet}
 use Rattle.protocol.specs.Book.{Contents}
 use Rattle.protocol.specs.Claims.{Proper}
 use Rattle.protocol.proofs.Soundness.{test-agrees}
+use Rattle.protocol.proofs.Refusals.{not-given}
 use Rattle.protocol.proofs.Naming.{found-names}
 use Rattle.protocol.proofs.Backing.{never-several, finds-one}
 use Rattle.protocol.proofs.Holding.{Restartable}
@@ -48,15 +49,8 @@ module _ (c : Contents) (cabinet : Cabinet) (safe : Safe c cabinet) (proper : Pr
 
   -- so no refusal is 14
   unlisted : firstOf (restartRefusals s (cabinet .area)) ≢ 14
-  unfolding restartRefusals firstOf
-  unlisted = rw not-several (other (not (sound s)) (wrongArea (s .disks) (s .blocks) (cabinet .area)) (isRunning (s .power)) (isNone (foundBy s)))
-    where
-      other : (p q r t : Bool) → _≢_ {A = ℕ} (cond p 1 (cond q 2 (cond r 7 (cond t 13 0)))) 14
-      other true q r t e = omega arith
-      other false true r t e = omega arith
-      other false false true t e = omega arith
-      other false false false true e = omega arith
-      other false false false false e = omega arith
+  unfolding restartRefusals
+  unlisted = not-given 14 (lit< tt) (restartRefusals s (cabinet .area)) (rw not-several)
 
   module _ (output : List ℕ) (budget : ℕ) where
     abbrev outcome : Outcome

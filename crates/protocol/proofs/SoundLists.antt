@@ -1,14 +1,11 @@
 -- Soundness is kept by every call, and given by fresh and assembling, so no call of a list gives 1. Assumes nothing.
 use mathlib.Core.Path.{_≡_, refl, subst}
 use mathlib.Core.Logic.{_≢_}
-use mathlib.Core.Bool.{Bool, true, false, not, cond, _&&_}
-use mathlib.Core.List.{List, [], _∷_}
+use mathlib.Core.Bool.{Bool, true}
+use mathlib.Core.List.{List, _∷_}
 use Prim.Native.Nat.{ℕ}
 use native.Mathlib.Omega.{arith}
-use lib.Dec.{eqb}
-use borrow.Author.Tests.{eqb-false, not-true}
-use Rattle.sets.proofs.Tests.{and-parts}
-use Rattle.label.specs.Refusals.{firstOf}
+use lib.Dec.{lit<}
 use Rattle.protocol.specs.declared.Call.{Call}
 use Rattle.protocol.specs.declared.Call.the-variants.{Read, Write, Join, Clean, Restart, Detach, Attach, PowerOff}
 use Rattle.protocol.specs.declared.State.{State}
@@ -18,26 +15,12 @@ use Rattle.protocol.specs.Calls.{unsound, blockRefusals, joinRefusals, c
 use Rattle.protocol.specs.Saving.{saveOutcome}
 use Rattle.protocol.specs.History.{Cabinet, perform}
 use Rattle.protocol.specs.Claims.{Proper, SoundnessKept}
+use Rattle.protocol.proofs.Refusals.{lacks, not-given}
 use Rattle.protocol.proofs.Soundness.{test-agrees}
 use Rattle.protocol.proofs.Passing.{refused-or, cut-or-whole}
 use Rattle.protocol.proofs.Assembling.{assembled-proper}
 use Rattle.protocol.proofs.SoundCalls.{calls-keep, format-proper}
 use Rattle.protocol.proofs.Invariant.{good-before, result-is}
-
--- ---- a paragraph that begins with 1, and has no other
-
-abbrev otherwise : List (ℕ × Bool) → Bool
-otherwise [] = true
-otherwise (refusal ∷ later) = not (eqb (refusal .0) 1) && otherwise later
-
-other-number : (refusals : List (ℕ × Bool)) → otherwise refusals ≡ true → firstOf refusals ≢ 1
-unfolding firstOf
-other-number [] h e = omega arith
-other-number ((number, unfit) ∷ later) h e = let (p, q) = and-parts _ _ h in go unfit p (other-number later q) e
-  where
-    go : (t : Bool) → not (eqb number 1) ≡ true → firstOf later ≢ 1 → cond t number (firstOf later) ≢ 1
-    go true p ih e = eqb-false number 1 (not-true _ p) e
-    go false p ih e = ih e
 
 abbrev NotOne : Outcome → Type 0
 NotOne o = o .answer .refusal ≢ 1
@@ -45,12 +28,9 @@ NotOne o = o .answer .refusal ≢ 1
 -- ---- a call of a sound state
 
 module _ (s : State) (p : Proper s) where
-  sound-first : (later : List (ℕ × Bool)) → otherwise later ≡ true → firstOf (unsound s ∷ later) ≢ 1
-  unfolding firstOf
-  sound-first later h = rw (test-agrees s .1 (p .fit)) (other-number later h)
-
-  not-one : (later : List (ℕ × Bool)) → otherwise later ≡ true → (area output : List ℕ) (done : Outcome) → NotOne done → NotOne (refusedOr (unsound s ∷ later) s area output done)
-  not-one later h area output done ne = refused-or _ s area output done NotOne (λ z. sound-first later h) (λ e. ne)
+  not-one : (later : List (ℕ × Bool)) → lacks 1 later ≡ true → (area output : List ℕ) (done : Outcome) → NotOne done → NotOne (refusedOr (unsound s ∷ later) s area output done)
+  not-one later h area output done ne =
+      refused-or _ s area output done NotOne (λ z. not-given 1 (lit< tt) (unsound s ∷ later) (rw (test-agrees s .1 (p .fit)) h)) (λ e. ne)
 
   carried : (stores : List Store) (budget g : ℕ) (area output : List ℕ) → NotOne (carryOut stores budget g s area output)
   carried stores budget g area output = cut-or-whole stores budget g s area output NotOne (λ l e. omega arith) (λ l e. omega arith)
