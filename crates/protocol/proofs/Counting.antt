@@ -3,7 +3,6 @@ use mathlib.Core.Path.{_≡_, refl, sym, _∙_}
 use mathlib.Core.Bool.{true, false, cond, _||_, or-assoc}
 use mathlib.Core.List.{List, [], _∷_, _++_}
 use Prim.Native.Nat.{ℕ, _^_, _<_}
-use lib.Dec.{eqb}
 use lib.ListN.{take}
 use borrow.Author.Tests.{eq-eqb}
 use Rattle.sets.specs.Sets.{has}
@@ -12,12 +11,12 @@ use Rattle.sets.proofs.LowestMember.{lowest-least}
 use Rattle.label.specs.declared.Label.{Label}
 use Rattle.protocol.specs.Geometry.{regionOf}
 use Rattle.protocol.specs.Loops.{forEach}
-use Rattle.protocol.specs.States.{isDirty, source}
+use Rattle.protocol.specs.States.{source}
 use Rattle.protocol.specs.Stores.{Store, write}
-use Rattle.protocol.specs.Lists.{marks, moveToLive, preparations, blockStores}
+use Rattle.protocol.specs.Lists.{preparations, blockStores}
 use Rattle.protocol.specs.Book.{isBlockStore, include}
-use Rattle.protocol.proofs.Loops.{Each, nil, cons, each-append, each-take, each-map, each-unless, each-member, begins}
-use Rattle.protocol.proofs.Labels.{SetStore, proposes, commits-it, each-set-store}
+use Rattle.protocol.proofs.Loops.{Each, nil, cons, each-append, each-take, begins}
+use Rattle.protocol.proofs.ListStores.{each-live, each-mark}
 use Rattle.protocol.proofs.Backing.{source-has}
 
 pub include-append : (d k : ℕ) (xs ys : List Store) → include d k (xs ++ ys) ≡ (include d k xs || include d k ys)
@@ -37,14 +36,8 @@ include-none d k (cons e es) = rw (e, include-none d k es)
 
 module _ (n : ℕ) (labels : List Label) (g l k d j : ℕ) where
   prepares : Each (NoBlock d j) (preparations n labels g l k)
-  unfolding preparations moveToLive marks
-  prepares = each-append
-      (each-unless (eqb l g) (λ z. each-map quiet (each-set-store n l)))
-      (each-member n l _ (λ e h m. each-unless (isDirty labels e (regionOf k)) (λ z. cons refl nil)))
-    where
-      quiet : (x : Store) → SetStore x → NoBlock d j x
-      quiet x proposes = refl
-      quiet x commits-it = refl
+  unfolding preparations
+  prepares = each-append (each-live n l (λ e i m. refl) (λ e i m. refl) g) (each-mark n labels l (regionOf k) (λ e i. refl))
 
   pub early : (p : ℕ) → include d j (take p (preparations n labels g l k)) ≡ false
   early p = include-none d j (each-take p prepares)

@@ -3,45 +3,34 @@ use mathlib.Core.Path.{_≡_, refl, _∙_}
 use mathlib.Core.Logic.{inl, inr}
 use mathlib.Core.Bool.{Bool, true, false, cond}
 use mathlib.Core.List.{List, []}
-use Prim.Native.Nat.{ℕ, _*_, _+_, _≤_, _<_}
+use Prim.Native.Nat.{ℕ, _≤_, _<_}
 use native.Mathlib.Omega.{arith}
-use lib.Dec.{eqb, ltb}
+use lib.Dec.{eqb}
 use lib.ListN.{length, length-set}
 use borrow.Author.Tests.{eqb-true}
 use Rattle.sets.specs.Sets.{has, below}
 use Rattle.sets.proofs.Bounds.{below-empty, below-difference, below-with}
 use Rattle.label.specs.declared.Label.{Label}
-use Rattle.protocol.specs.declared.State.{State}
-use Rattle.protocol.specs.Geometry.{mostDisks, regionSize, regions}
-use Rattle.protocol.specs.Loops.{some}
-use Rattle.protocol.specs.States.{blank, labelAt, isDirty}
-use Rattle.protocol.specs.Soundness.{FitSet, FitLabel, FitLabels, FitCurrent}
+use Rattle.protocol.specs.Geometry.{mostDisks, regions}
+use Rattle.protocol.specs.States.{blank, labelAt}
+use Rattle.protocol.specs.Soundness.{FitLabel, FitLabels, FitCurrent}
 use Rattle.protocol.specs.Stores.{Disks, Store, write, copy, mark, clear, propose, commit, withDirty, onLabel, apply, applyAll}
-use Rattle.protocol.specs.Lists.{proposals, commits, move, moveToLive, marks, blockStores, fill, cleanList, forBlocks, copies, clears, mend, mends}
-use Rattle.protocol.proofs.Loops.{Each, nil, cons, each-append, each-if, each-unless, each-ascending, each-member, each-map}
-use Rattle.protocol.proofs.Runs.{apply-append, keeps}
+use Rattle.protocol.specs.Lists.{commits, move, moveToLive}
+use Rattle.protocol.proofs.Loops.{Each}
+use Rattle.protocol.proofs.ListStores.{each-proposal, each-move, each-live}
+use Rattle.protocol.proofs.Runs.{apply-append, Keeps, keeps}
 use Rattle.protocol.proofs.Labels.{at-set, field-set, committed}
 
--- ---- stores that fit a cabinet of n disks of b blocks
+-- ---- labels that are fit, in an array of its length
 
--- those that leave every C and T
-pub data PlainStore (n b : ℕ) : Store → Type 0 where
-  writes : {d k : ℕ} {bytes : List ℕ} → PlainStore n b (write d k bytes)
-  copies-it : {from to k : ℕ} → PlainStore n b (copy from to k)
-  marks-it : {d r : ℕ} → d < n → r < regions b → PlainStore n b (mark d r)
-  clears-it : {d r : ℕ} → d < n → PlainStore n b (clear d r)
-
-pub data FitStore (n b : ℕ) : Store → Type 0 where
-  plain : {x : Store} → PlainStore n b x → FitStore n b x
-  proposes : {d s : ℕ} → d < n → FitSet n d s → FitStore n b (propose d s)
-  commits-it : {d s : ℕ} → d < n → FitSet n d s → FitStore n b (commit d s)
-
--- labels that are fit, in an array of its length
 pub record FitDisks (n b : ℕ) (w : Disks) : Type 0 where
   pub labels : FitLabels n b (w .labels)
   pub slots : length (w .labels) ≡ mostDisks
 
 module _ (n b : ℕ) (few : n ≤ mostDisks) where
+  abbrev pub KeepsFit : Store → Type 0
+  KeepsFit x = Keeps b (FitDisks n b) x
+
   -- a fit label in the place of another
   label-step : (w : Disks) (d : ℕ) (l : Label) → d < n → FitLabel n b d l → FitDisks n b w → FitDisks n b (onLabel w d l)
   label-step w d l hd new h =
@@ -54,91 +43,58 @@ module _ (n b : ℕ) (few : n ≤ mostDisks) where
         slots = length-set (w .labels) d l ∙ h .slots;
       }
 
-  plain-step : (x : Store) (w : Disks) → PlainStore n b x → FitDisks n b w → FitDisks n b (apply b x w)
+  pub fit-write : (d k : ℕ) (bytes : List ℕ) → KeepsFit (write d k bytes)
   unfolding apply
-  plain-step x w writes h = record { labels = h .labels; slots = h .slots }
-  plain-step x w copies-it h = record { labels = h .labels; slots = h .slots }
-  plain-step x w (marks-it {d} {r} hd hr) h =
-      let old = h .labels .each d hd in
-      label-step w d _ hd (record { committed = old .committed; tentative = old .tentative; dirty = below-with _ r _ (old .dirty) hr }) h
-  plain-step x w (clears-it {d} {r} hd) h =
-      let old = h .labels .each d hd in
-      label-step w d _ hd (record { committed = old .committed; tentative = old .tentative; dirty = below-difference _ _ _ (old .dirty) }) h
+  fit-write d k bytes w h = record { labels = h .labels; slots = h .slots }
 
-  fit-step : (x : Store) (w : Disks) → FitStore n b x → FitDisks n b w → FitDisks n b (apply b x w)
+  pub fit-copy : (from to k : ℕ) → KeepsFit (copy from to k)
   unfolding apply
-  fit-step x w (plain p) h = plain-step x w p h
-  fit-step x w (proposes {d} hd fit) h =
+  fit-copy from to k w h = record { labels = h .labels; slots = h .slots }
+
+  -- another dirty map whose bits name regions
+  dirty-step : (w : Disks) (d map : ℕ) → d < n → (FitDisks n b w → below map (regions b) ≡ true) → FitDisks n b w
+      → FitDisks n b (onLabel w d (withDirty (labelAt (w .labels) d) map))
+  dirty-step w d map hd new h =
       let old = h .labels .each d hd in
-      label-step w d _ hd (record { committed = old .committed; tentative = fit; dirty = old .dirty }) h
-  fit-step x w (commits-it {d} hd fit) h =
-      let old = h .labels .each d hd in
-      label-step w d _ hd (record { committed = fit; tentative = record { known = below-empty n; own = inl refl }; dirty = old .dirty }) h
+      label-step w d _ hd (record { committed = old .committed; tentative = old .tentative; dirty = new h }) h
 
-  pub stay-fit : {xs : List Store} → Each (FitStore n b) xs → (w : Disks) → FitDisks n b w → FitDisks n b (applyAll b xs w)
-  stay-fit = keeps b (FitDisks n b) (FitStore n b) fit-step
+  pub fit-mark : (d r : ℕ) → d < n → r < regions b → KeepsFit (mark d r)
+  unfolding apply
+  fit-mark d r hd hr w = dirty-step w d _ hd (λ h. below-with _ r _ (h .labels .each d hd .dirty) hr)
 
--- ---- the lists of stores of calls
+  pub fit-clear : (d r : ℕ) → d < n → KeepsFit (clear d r)
+  unfolding apply
+  fit-clear d r hd w = dirty-step w d _ hd (λ h. below-difference _ _ _ (h .labels .each d hd .dirty))
 
-module _ (n b : ℕ) where
-  -- ---- moves
+  module _ (s : ℕ) (known : below s n ≡ true) where
+    pub fit-propose : (d : ℕ) → d < n → has s d ≡ true → KeepsFit (propose d s)
+    unfolding apply
+    fit-propose d hd m w h =
+        let old = h .labels .each d hd in
+        label-step w d _ hd (record { committed = old .committed; tentative = record { known = known; own = inr m }; dirty = old .dirty }) h
 
-  own : {s d : ℕ} → below s n ≡ true → has s d ≡ true → FitSet n d s
-  own h m = record { known = h; own = inr m }
+    pub fit-commit : (d : ℕ) → d < n → has s d ≡ true → KeepsFit (commit d s)
+    unfolding apply
+    fit-commit d hd m w h =
+        let old = h .labels .each d hd in
+        label-step w d _ hd
+        (record { committed = record { known = known; own = inr m }; tentative = record { known = below-empty n; own = inl refl }; dirty = old .dirty }) h
 
-  each-propose : (s : ℕ) → below s n ≡ true → Each (FitStore n b) (proposals n s)
-  unfolding proposals
-  each-propose s h = each-member n s _ (λ d l m. cons (proposes l (own h m)) nil)
+    pub fit-move : Each KeepsFit (move n s)
+    fit-move = each-move n s fit-propose fit-commit
 
-  pub each-commit : (s : ℕ) → below s n ≡ true → Each (FitStore n b) (commits n s)
-  unfolding commits
-  each-commit s h = each-member n s _ (λ d l m. cons (commits-it l (own h m)) nil)
+    pub fit-live : (g : ℕ) → Each KeepsFit (moveToLive n g s)
+    fit-live = each-live n s fit-propose fit-commit
 
-  pub each-move : (s : ℕ) → below s n ≡ true → Each (FitStore n b) (move n s)
-  unfolding move
-  each-move s h = each-append (each-propose s h) (each-commit s h)
+-- ---- the current set
 
-  pub each-live : (g l : ℕ) → below l n ≡ true → Each (FitStore n b) (moveToLive n g l)
-  unfolding moveToLive
-  each-live g l h = each-unless (eqb l g) (λ z. each-move l h)
+module _ (n b g : ℕ) where
+  abbrev pub KeepsCurrent : Store → Type 0
+  KeepsCurrent x = Keeps b (λ w. FitCurrent n (w .labels) g) x
 
-  -- ---- the others
-
-  pub each-mark : (labels : List Label) (l r : ℕ) → r < regions b → Each (PlainStore n b) (marks n labels l r)
-  unfolding marks
-  each-mark labels l r h = each-member n l _ (λ d k m. each-unless (isDirty labels d r) (λ z. cons (marks-it k h) nil))
-
-  pub each-block : (l k : ℕ) (bytes : List ℕ) → Each (PlainStore n b) (blockStores n l k bytes)
-  unfolding blockStores
-  each-block l k bytes = each-member n l _ (λ d h m. cons writes nil)
-
-  pub each-fill : (l d : ℕ) → Each (PlainStore n b) (fill b l d)
-  unfolding fill
-  each-fill l d = each-ascending b _ (λ k h. cons copies-it nil)
-
-  each-mend : (s r : ℕ) → Each (PlainStore n b) (mend n b s r)
-  unfolding mend copies forBlocks clears
-  each-mend s r =
-      each-append
-      (each-ascending regionSize _ (λ i h. each-if (ltb (r * regionSize + i) b) (λ z. each-member n _ _ (λ d l m. cons copies-it nil))))
-      (each-member n s _ (λ d l m. cons (clears-it l) nil))
-
-  pub each-mends : (labels : List Label) (s : ℕ) → Each (PlainStore n b) (mends n b labels s)
-  unfolding mends
-  each-mends labels s = each-ascending (regions b) _ (λ r h. each-if (some n s (λ d. isDirty labels d r)) (λ z. each-mend s r))
-
-pub each-clean : (s : State) → Each (PlainStore (s .disks) (s .blocks)) (cleanList s)
-unfolding cleanList
-each-clean s = each-ascending _ _ (λ r k. each-member _ _ _ (λ d l m. each-if (isDirty (s .labels) d r) (λ z. cons (clears-it l) nil)))
-
-pub each-plain : {n b : ℕ} {xs : List Store} → Each (PlainStore n b) xs → Each (FitStore n b) xs
-each-plain = each-map (λ x. plain)
-
--- ---- the current set after a whole list
-
-module _ (n b : ℕ) where
-  dirty-current : (g : ℕ) (w : Disks) (d map : ℕ) → FitCurrent n (w .labels) g → FitCurrent n (onLabel w d (withDirty (labelAt (w .labels) d) map) .labels) g
-  dirty-current g w d map h = record {
+  -- it is what it was where no C and no T changes ..
+  dirty-current : (w : Disks) (d map : ℕ) → FitCurrent n (w .labels) g → FitCurrent n (onLabel w d (withDirty (labelAt (w .labels) d) map) .labels) g
+  dirty-current w d map h = record {
     known = h .known;
     filled = h .filled;
     members = λ e l m.
@@ -146,16 +102,17 @@ module _ (n b : ℕ) where
         (field-set (λ z. z .committed) (w .labels) d _ refl e ∙ c, field-set (λ z. z .tentative) (w .labels) d _ refl e ∙ t);
   }
 
-  plain-current : (g : ℕ) (x : Store) (w : Disks) → PlainStore n b x → FitCurrent n (w .labels) g → FitCurrent n (apply b x w .labels) g
+  pub current-write : (d k : ℕ) (bytes : List ℕ) → KeepsCurrent (write d k bytes)
   unfolding apply
-  plain-current g x w writes h = h
-  plain-current g x w copies-it h = h
-  plain-current g x w (marks-it {d} hd hr) h = dirty-current g w d _ h
-  plain-current g x w (clears-it {d} hd) h = dirty-current g w d _ h
+  current-write d k bytes w h = h
 
-  -- it is what it was where no C and no T changed ..
-  pub stay-current : {xs : List Store} → Each (PlainStore n b) xs → (g : ℕ) (w : Disks) → FitCurrent n (w .labels) g → FitCurrent n (applyAll b xs w .labels) g
-  stay-current each g = keeps b (λ w. FitCurrent n (w .labels) g) (PlainStore n b) (plain-current g) each
+  pub current-mark : (d r : ℕ) → KeepsCurrent (mark d r)
+  unfolding apply
+  current-mark d r w h = dirty-current w d _ h
+
+  pub current-clear : (d r : ℕ) → KeepsCurrent (clear d r)
+  unfolding apply
+  current-clear d r w h = dirty-current w d _ h
 
 -- .. and s after commits of s, and after a move to it
 module _ (n b : ℕ) (few : n ≤ mostDisks) (s : ℕ) (known : below s n ≡ true) (filled : 0 < s) where
@@ -164,7 +121,7 @@ module _ (n b : ℕ) (few : n ≤ mostDisks) (s : ℕ) (known : below s n ≡ tr
 
   pub move-current : (w : Disks) → FitDisks n b w → FitCurrent n (applyAll b (move n s) w .labels) s
   unfolding move
-  move-current w fit = rw apply-append (commits-current _ (stay-fit n b few (each-propose n b s known) w fit))
+  move-current w fit = rw apply-append (commits-current _ (keeps b (FitDisks n b) (each-proposal n s (fit-propose n b few s known)) w fit))
 
   pub live-current : (w : Disks) → FitDisks n b w → (g : ℕ) → FitCurrent n (w .labels) g → FitCurrent n (applyAll b (moveToLive n g s) w .labels) s
   unfolding moveToLive applyAll

@@ -13,11 +13,11 @@ use Rattle.sets.proofs.Operations.{has-union, has-singleton}
 use Rattle.sets.proofs.Bounds.{member-below, below-pow, below-with}
 use Rattle.sets.proofs.LowestMember.{non-empty}
 use Rattle.protocol.specs.States.{source}
-use Rattle.protocol.specs.Stores.{Disks, Store, copy, apply, applyAll}
+use Rattle.protocol.specs.Stores.{Disks, copy, apply, applyAll}
 use Rattle.protocol.specs.Lists.{move, moveToLive, fill}
 use Rattle.protocol.specs.Book.{Contents}
-use Rattle.protocol.proofs.Loops.{Each, nil, cons, each-ascending}
-use Rattle.protocol.proofs.Runs.{apply-append, Along, along-append, keeps-along, made-all}
+use Rattle.protocol.proofs.ListStores.{each-fill}
+use Rattle.protocol.proofs.Runs.{apply-append, Along, along-append, Keeps, keeps-along, made-all}
 use Rattle.protocol.proofs.Areas.{block-length}
 use Rattle.protocol.proofs.Backing.{source-has}
 use Rattle.protocol.proofs.Holding.{Right, Holds, Steady, Restartable, steady-stops, steady-stores, now-right, stays-right}
@@ -27,18 +27,15 @@ module _ (n b : ℕ) (c : Contents) where
   -- ---- blocks copied from the source to disk d
 
   module _ (l d : ℕ) (hd : d < n) where
-    data Copying : Store → Type 0 where
-      copying : {k : ℕ} → k < b → Copying (copy (source l) d k)
-
     source-right : (w : Disks) → Steady n b c l w → (k : ℕ) → k < b → Right n b c w (source l) k
     source-right w h k hk = h .holds (source l) (source-has l (h .agreed .filled)) k hk
 
     source-below : (w : Disks) → Steady n b c l w → source l < n
     source-below w h = member-below l n (source l) (h .agreed .known) (source-has l (h .agreed .filled))
 
-    copy-step : (x : Store) (w : Disks) → Copying x → Steady n b c l w → Steady n b c l (apply b x w)
+    copy-step : (k : ℕ) → k < b → Keeps b (Steady n b c l) (copy (source l) d k)
     unfolding apply
-    copy-step x w (copying {k} hk) h =
+    copy-step k hk w h =
         steady-stores n b c w (h .size) d k hd hk _ (block-length n b (w .area) (h .size) (source l) k (source-below w h) hk) (source-right w h k hk) l h
 
     copied : (k : ℕ) → k < b → (w : Disks) → Steady n b c l w → Right n b c (apply b (copy (source l) d k) w) d k
@@ -50,17 +47,13 @@ module _ (n b : ℕ) (c : Contents) where
     still-copied k j hk hj w h q =
         stays-right n b c w (h .size) d k hd hk _ (block-length n b (w .area) (h .size) (source l) k (source-below w h) hk) (source-right w h k hk) d j hd hj q
 
-    each-copying : Each Copying (fill b l d)
-    unfolding fill
-    each-copying = each-ascending b _ (λ k hk. cons (copying hk) nil)
-
     fill-cut : (w : Disks) → Steady n b c l w → Along b (Restartable n b c) (fill b l d) w
-    fill-cut w h k = steady-stops n b c (keeps-along b (Steady n b c l) Copying copy-step each-copying w h k)
+    fill-cut w h k = steady-stops n b c (keeps-along b (Steady n b c l) (each-fill b l d copy-step) w h k)
 
     fill-done : (w : Disks) → Steady n b c l w → Steady n b c l (applyAll b (fill b l d) w) × Holds n b c (applyAll b (fill b l d) w) d
     unfolding fill applyAll
     fill-done w h = made-all b (λ k. copy (source l) d k ∷ []) (Steady n b c l) (λ k v. Right n b c v d k) b
-        (λ k hk v s. (copy-step _ v (copying hk) s, copied k hk v s))
+        (λ k hk v s. (copy-step k hk v s, copied k hk v s))
         (λ k j hk r v s q. still-copied k j hk (omega arith) v s q)
         w h
 

@@ -7,16 +7,15 @@ use Prim.Native.Nat.{ℕ, zero, suc, _≤_, _<_}
 use native.Mathlib.Omega.{arith}
 use lib.ListN.{length, set, length-set}
 use lib.Seq.{getD-set-same, getD-set-other}
-use lib.Dec.{eqb}
 use borrow.Author.Tests.{eq-eqb}
 use Rattle.sets.specs.Sets.{has, union, singleton}
 use Rattle.sets.proofs.Tests.{and-parts, same-or-not}
 use Rattle.sets.proofs.Operations.{has-union, has-difference, has-singleton}
 use Rattle.label.specs.declared.Label.{Label}
 use Rattle.protocol.specs.States.{blank, labelAt, isDirty}
-use Rattle.protocol.specs.Stores.{Disks, Store, mark, clear, propose, commit, withDirty, apply, applyAll}
+use Rattle.protocol.specs.Stores.{Disks, mark, clear, propose, commit, withDirty, apply, applyAll}
 use Rattle.protocol.specs.Lists.{proposals, commits, move, moveToLive}
-use Rattle.protocol.proofs.Loops.{Each, nil, cons, each-append, each-unless, each-member}
+use Rattle.protocol.proofs.ListStores.{each-live}
 use Rattle.protocol.proofs.Runs.{keeps, made-members}
 
 -- what holds of the new label of d, and of each other label, holds of each label afterwards
@@ -57,24 +56,17 @@ module _ (b d r : ℕ) (w : Disks) (room : d < length (w .labels)) where
       (λ h. and-parts (isDirty (w .labels) d q) _ (sym (has-difference ((labelAt (w .labels) d) .dirty) (singleton r) q) ∙ h) .0) (λ i ne h. h) e
 
 -- a move leaves them
-pub data SetStore : Store → Type 0 where
-  proposes : {d s : ℕ} → SetStore (propose d s)
-  commits-it : {d s : ℕ} → SetStore (commit d s)
-
-set-store-dirty : (b : ℕ) (x : Store) (w : Disks) → SetStore x → (e : ℕ) → (labelAt (apply b x w .labels) e) .dirty ≡ (labelAt (w .labels) e) .dirty
-unfolding apply
-set-store-dirty b x w (proposes {d}) e = field-set (λ l. l .dirty) (w .labels) d _ refl e
-set-store-dirty b x w (commits-it {d}) e = field-set (λ l. l .dirty) (w .labels) d _ refl e
-
-pub each-set-store : (n s : ℕ) → Each SetStore (move n s)
-unfolding move proposals commits
-each-set-store n s = each-append (each-member n s _ (λ d l m. cons proposes nil)) (each-member n s _ (λ d l m. cons commits-it nil))
-
 pub move-dirty : (b n g l : ℕ) (w : Disks) (e : ℕ) → (labelAt (applyAll b (moveToLive n g l) w .labels) e) .dirty ≡ (labelAt (w .labels) e) .dirty
-unfolding moveToLive
-move-dirty b n g l w e =
-    keeps b (λ v. (labelAt (v .labels) e) .dirty ≡ (labelAt (w .labels) e) .dirty) SetStore (λ x v p q. set-store-dirty b x v p e ∙ q)
-    (each-unless (eqb l g) (λ z. each-set-store n l)) w refl
+move-dirty b n g l w e = keeps b Same (each-live n l (λ d i m v. propose-same d v) (λ d i m v. commit-same d v) g) w refl
+  where
+    Same : Disks → Type 0
+    Same v = (labelAt (v .labels) e) .dirty ≡ (labelAt (w .labels) e) .dirty
+
+    propose-same : (d : ℕ) (v : Disks) → Same v → Same (apply b (propose d l) v)
+    propose-same d v q = unfold apply in field-set (λ x. x .dirty) (v .labels) d _ refl e ∙ q
+
+    commit-same : (d : ℕ) (v : Disks) → Same v → Same (apply b (commit d l) v)
+    commit-same d v q = unfold apply in field-set (λ x. x .dirty) (v .labels) d _ refl e ∙ q
 
 -- ---- whole moves
 

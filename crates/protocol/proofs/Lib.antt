@@ -6,6 +6,7 @@ pub mod ByHand
 pub mod Loops
 pub mod Turns
 pub mod Runs
+pub mod ListStores
 pub mod Areas
 pub mod Labels
 -- soundness, refusals, and the set that a restart names

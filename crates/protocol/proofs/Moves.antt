@@ -12,30 +12,15 @@ use Rattle.sets.specs.Sets.{has}
 use Rattle.sets.proofs.Bounds.{member-below, below-pow, below-inside}
 use Rattle.protocol.specs.Geometry.{areaSize}
 use Rattle.protocol.specs.States.{labelAt, source}
-use Rattle.protocol.specs.Stores.{Disks, Store, propose, commit, withCommitted, apply, applyAll}
+use Rattle.protocol.specs.Stores.{Disks, propose, commit, withCommitted, apply, applyAll}
 use Rattle.protocol.specs.Lists.{proposals, commits, move, moveToLive}
 use Rattle.protocol.specs.Book.{Contents}
-use Rattle.protocol.proofs.Loops.{Each, nil, cons, each-member}
-use Rattle.protocol.proofs.Runs.{apply-append, Along, along-append, along-nil, keeps, keeps-along}
+use Rattle.protocol.proofs.ListStores.{each-proposal, each-commit}
+use Rattle.protocol.proofs.Runs.{apply-append, Along, along-append, along-nil, Keeps, keeps, keeps-along}
 use Rattle.protocol.proofs.Labels.{field-set, proposed, committed}
 use Rattle.protocol.proofs.Backing.{Backed, source-has}
 use Rattle.protocol.proofs.Moving.{Proposing, begin-proposing, propose-keeps, proposing-recoverable, commit-backed, commit-shrinks, commit-keeps, committed-agree}
 use Rattle.protocol.proofs.Holding.{Holds, Steady, Restartable, steady-stops}
-
--- the stores of a move's halves
-pub data Proposal (n s : ℕ) : Store → Type 0 where
-  proposal : {d : ℕ} → d < n → Proposal n s (propose d s)
-
-pub data Commitment (n s : ℕ) : Store → Type 0 where
-  commitment : {d : ℕ} → d < n → has s d ≡ true → Commitment n s (commit d s)
-
-each-proposal : (n s : ℕ) → Each (Proposal n s) (proposals n s)
-unfolding proposals
-each-proposal n s = each-member n s _ (λ d l m. cons (proposal l) nil)
-
-each-commitment : (n s : ℕ) → Each (Commitment n s) (commits n s)
-unfolding commits
-each-commitment n s = each-member n s _ (λ d l m. cons (commitment l m) nil)
 
 module _ (n b : ℕ) (c : Contents) where
   -- ---- commits: the end of a move, and of a restart
@@ -46,9 +31,9 @@ module _ (n b : ℕ) (c : Contents) where
     pub backed : Backed (w .labels) s
     pub holds : (d : ℕ) → has s d ≡ true → Holds n b c w d
 
-  commit-step : (s : ℕ) (x : Store) (w : Disks) → Commitment n s x → Committing s w → Committing s (apply b x w)
+  commit-step : (s d : ℕ) → d < n → has s d ≡ true → Keeps b (Committing s) (commit d s)
   unfolding apply
-  commit-step s x w (commitment {d} l m) h =
+  commit-step s d l m w h =
       let r = h .restartable in
       let room : d < length (w .labels) = omega (arith, r .room) in
       record {
@@ -66,11 +51,11 @@ module _ (n b : ℕ) (c : Contents) where
 
   module _ (s : ℕ) (w : Disks) (h : Committing s w) where
     pub commits-cut : Along b (Restartable n b c) (commits n s) w
-    commits-cut k = keeps-along b (Committing s) (Commitment n s) (commit-step s) (each-commitment n s) w h k .restartable
+    commits-cut k = keeps-along b (Committing s) (each-commit n s (commit-step s)) w h k .restartable
 
     pub commits-done : Steady n b c s (applyAll b (commits n s) w)
     commits-done =
-        let e = keeps b (Committing s) (Commitment n s) (commit-step s) (each-commitment n s) w h in
+        let e = keeps b (Committing s) (each-commit n s (commit-step s)) w h in
         let r = e .restartable in
         record {
           room = r .room;
@@ -89,9 +74,9 @@ module _ (n b : ℕ) (c : Contents) where
     old : (d : ℕ) → has g d ≡ true → Holds n b c w d
     new : (d : ℕ) → has s d ≡ true → Holds n b c w d
 
-  propose-step : (g s : ℕ) (x : Store) (w : Disks) → Proposal n s x → Proposed g s w → Proposed g s (apply b x w)
+  propose-step : (g s d : ℕ) → d < n → Keeps b (Proposed g s) (propose d s)
   unfolding apply
-  propose-step g s x w (proposal {d} l) h = record {
+  propose-step g s d l w h = record {
     room = rw length-set (h .room);
     size = h .size;
     proposing = propose-keeps g s (w .labels) d (omega (arith, h .room)) (h .proposing);
@@ -121,7 +106,7 @@ module _ (n b : ℕ) (c : Contents) where
         source-in x q = source-has x (q .filled)
 
     proposed-all : Proposed g s (applyAll b (proposals n s) w)
-    proposed-all = keeps b (Proposed g s) (Proposal n s) (propose-step g s) (each-proposal n s) w begin
+    proposed-all = keeps b (Proposed g s) (each-proposal n s (λ d l m. propose-step g s d l)) w begin
 
     half-way : Committing s (applyAll b (proposals n s) w)
     half-way = record {
@@ -133,7 +118,7 @@ module _ (n b : ℕ) (c : Contents) where
     pub move-cut : Along b (Restartable n b c) (move n s) w
     unfolding move
     move-cut = along-append b (Restartable n b c) (proposals n s) (commits n s) w
-        (λ k. open-to-restart _ (keeps-along b (Proposed g s) (Proposal n s) (propose-step g s) (each-proposal n s) w begin k))
+        (λ k. open-to-restart _ (keeps-along b (Proposed g s) (each-proposal n s (λ d l m. propose-step g s d l)) w begin k))
         (commits-cut s _ half-way)
 
     pub move-done : Steady n b c s (applyAll b (move n s) w)

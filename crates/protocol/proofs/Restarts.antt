@@ -18,8 +18,9 @@ use Rattle.protocol.specs.States.{labelAt, isDirty, source}
 use Rattle.protocol.specs.Stores.{Disks, Store, copy, clear, apply, applyAll}
 use Rattle.protocol.specs.Lists.{commits, forBlocks, copies, clears, mend, mends}
 use Rattle.protocol.specs.Book.{Contents}
-use Rattle.protocol.proofs.Loops.{some-not, Each, nil, cons, each-ascending, each-if, each-member}
-use Rattle.protocol.proofs.Runs.{apply-append, Along, along-append, along-nil, keeps, keeps-along, loop, loop-along, made-all, made-members}
+use Rattle.protocol.proofs.Loops.{some-not, Each, nil, cons, each-if, each-member}
+use Rattle.protocol.proofs.ListStores.{each-copy, each-clear}
+use Rattle.protocol.proofs.Runs.{apply-append, Along, along-append, along-nil, Keeps, keeps, keeps-along, loop, loop-along, made-all, made-members}
 use Rattle.protocol.proofs.Areas.{region-known, block-length}
 use Rattle.protocol.proofs.Labels.{clear-keeps}
 use Rattle.protocol.proofs.Backing.{Backed, source-has}
@@ -35,9 +36,6 @@ module _ (n b : ℕ) (c : Contents) (s : ℕ) (labels : List Label) where
     right : (d : ℕ) → has s d ≡ true → (k : ℕ) → k < b → regionOf k < r → Right n b c w d k
 
   -- ---- copies: each stores what the source has, which is the book's block
-
-  data Copying : Store → Type 0 where
-    copying : {d k : ℕ} → d < n → k < b → Copying (copy (source s) d k)
 
   module _ {r : ℕ} {w : Disks} (h : Mended r w) where
     below : (d : ℕ) → has s d ≡ true → d < n
@@ -71,9 +69,6 @@ module _ (n b : ℕ) (c : Contents) (s : ℕ) (labels : List Label) where
             right = λ e m j hj l. still-right e j (below e m) hj (h .right e m j hj l);
           }
 
-  copy-step : (r : ℕ) (x : Store) (w : Disks) → Copying x → Mended r w → Mended r (apply b x w)
-  copy-step r x w (copying {d} {k} hd hk) h = copy-keeps h d k hd hk
-
   -- ---- the copies of region r
 
   abbrev others : ℕ
@@ -85,12 +80,13 @@ module _ (n b : ℕ) (c : Contents) (s : ℕ) (labels : List Label) where
   abbrev blockOf : ℕ → ℕ → ℕ
   blockOf r i = r * regionSize + i
 
-  each-block-copy : (r i : ℕ) → Each Copying (cond (ltb (blockOf r i) b) (blockCopies (blockOf r i)) [])
-  each-block-copy r i = each-if (ltb (blockOf r i) b) (λ e. each-member n others _ (λ d l m. cons (copying l (ltb-true _ _ e)) nil))
+  -- each copy of a block keeps what is mended
+  block-keeps : (Q : Disks → Type 0) (r : ℕ) → ((d k : ℕ) → d < n → k < b → Keeps b Q (copy (source s) d k))
+      → (i : ℕ) → Each (Keeps b Q) (cond (ltb (blockOf r i) b) (blockCopies (blockOf r i)) [])
+  block-keeps Q r h i = each-if (ltb (blockOf r i) b) (λ e. each-member n others _ (λ d l m. cons (h d (blockOf r i) l (ltb-true _ _ e)) nil))
 
-  each-copy : (r : ℕ) → Each Copying (copies n b s r)
-  unfolding copies forBlocks
-  each-copy r = each-ascending regionSize _ (λ i l. each-block-copy r i)
+  mended-keeps : (r d k : ℕ) → d < n → k < b → Keeps b (Mended r) (copy (source s) d k)
+  mended-keeps r d k hd hk w h = copy-keeps h d k hd hk
 
   abbrev CopiedTo : Disks → ℕ → Type 0
   CopiedTo w k = (d : ℕ) → d < n → has others d ≡ true → Right n b c w d k
@@ -102,19 +98,22 @@ module _ (n b : ℕ) (c : Contents) (s : ℕ) (labels : List Label) where
       (λ d e hd m l v g q. still-right g d k hd hk e k (omega arith) hk q)
       w h .1
 
-  stays-copied : (r j : ℕ) → j < b → {xs : List Store} → Each Copying xs → (w : Disks) → Mended r w → CopiedTo w j → CopiedTo (applyAll b xs w) j
-  stays-copied r j hj each w h q =
-      keeps b (λ v. Mended r v × CopiedTo v j) Copying (λ x v p g. (copy-step r x v p (g .0), step x v p g)) each w (h, q) .1
+  stays-copied : (r j : ℕ) → j < b → (i : ℕ) (w : Disks) → Mended r w → CopiedTo w j
+      → CopiedTo (applyAll b (cond (ltb (blockOf r i) b) (blockCopies (blockOf r i)) []) w) j
+  stays-copied r j hj i w h q = keeps b Both (block-keeps Both r step i) w (h, q) .1
     where
-      step : (x : Store) (v : Disks) → Copying x → Mended r v × CopiedTo v j → CopiedTo (apply b x v) j
-      step x v (copying {d} {k} hd hk) (g, t) e he m = still-right g d k hd hk e j he hj (t e he m)
+      Both : Disks → Type 0
+      Both v = Mended r v × CopiedTo v j
+
+      step : (d k : ℕ) → d < n → k < b → Keeps b Both (copy (source s) d k)
+      step d k hd hk v (g, t) = (copy-keeps g d k hd hk, λ e he m. still-right g d k hd hk e j he hj (t e he m))
 
   region-copied : (r : ℕ) (w : Disks) → Mended r w
       → Mended r (applyAll b (copies n b s r) w) × ((i : ℕ) → i < regionSize → blockOf r i < b → CopiedTo (applyAll b (copies n b s r) w) (blockOf r i))
   unfolding copies forBlocks
   region-copied r = made-all b (λ i. cond (ltb (blockOf r i) b) (blockCopies (blockOf r i)) []) (Mended r) (λ i v. blockOf r i < b → CopiedTo v (blockOf r i)) regionSize
-      (λ i l w h. (keeps b (Mended r) Copying (copy-step r) (each-block-copy r i) w h, λ z. make i w h z))
-      (λ i j l q w h t z. stays-copied r (blockOf r j) z (each-block-copy r i) w h (t z))
+      (λ i l w h. (keeps b (Mended r) (block-keeps (Mended r) r (mended-keeps r) i) w h, λ z. make i w h z))
+      (λ i j l q w h t z. stays-copied r (blockOf r j) z i w h (t z))
     where
       make : (i : ℕ) (w : Disks) → Mended r w → blockOf r i < b → CopiedTo (applyAll b (cond (ltb (blockOf r i) b) (blockCopies (blockOf r i)) []) w) (blockOf r i)
       make i w h z = rw (lt-ltb _ _ z) (block-copied r (blockOf r i) z w h)
@@ -150,16 +149,9 @@ module _ (n b : ℕ) (c : Contents) (s : ℕ) (labels : List Label) where
 
   -- ---- clears: the members are right in the region, so its bits are not needed
 
-  data Clearing (r : ℕ) : Store → Type 0 where
-    clearing : {d : ℕ} → d < n → has s d ≡ true → Clearing r (clear d r)
-
-  each-clear : (r : ℕ) → Each (Clearing r) (clears n s r)
-  unfolding clears
-  each-clear r = each-member n s _ (λ d l m. cons (clearing l m) nil)
-
-  clear-step : (r : ℕ) (x : Store) (w : Disks) → Clearing r x → Mended (suc r) w → Mended (suc r) (apply b x w)
+  clear-step : (r d : ℕ) → d < n → has s d ≡ true → Keeps b (Mended (suc r)) (clear d r)
   unfolding apply
-  clear-step r x w (clearing {d} hd m) h = record {
+  clear-step r d hd m w h = record {
     restartable = restartable-dirties n b c w d _ hd (λ k hk. go k hk (same-or-not (regionOf k) r)) (h .restartable);
     backed = backed-still n b c w d _ (h .backed);
     cleaner = λ e q z. h .cleaner e q (clear-keeps b d r w (omega (arith, h .restartable .room)) e q z);
@@ -181,12 +173,12 @@ module _ (n b : ℕ) (c : Contents) (s : ℕ) (labels : List Label) where
   mend-cut : (r : ℕ) (w : Disks) → Mended r w → Along b (Restartable n b c) (mend n b s r) w
   unfolding mend
   mend-cut r w h = along-append b (Restartable n b c) (copies n b s r) (clears n s r) w
-      (λ k. keeps-along b (Mended r) Copying (copy-step r) (each-copy r) w h k .restartable)
-      (λ k. keeps-along b (Mended (suc r)) (Clearing r) (clear-step r) (each-clear r) _ (copies-done r w h) k .restartable)
+      (λ k. keeps-along b (Mended r) (each-copy n b s r (mended-keeps r)) w h k .restartable)
+      (λ k. keeps-along b (Mended (suc r)) (each-clear n s r (clear-step r)) _ (copies-done r w h) k .restartable)
 
   mend-done : (r : ℕ) (w : Disks) → Mended r w → Mended (suc r) (applyAll b (mend n b s r) w)
   unfolding mend
-  mend-done r w h = rw apply-append (keeps b (Mended (suc r)) (Clearing r) (clear-step r) (each-clear r) _ (copies-done r w h))
+  mend-done r w h = rw apply-append (keeps b (Mended (suc r)) (each-clear n s r (clear-step r)) _ (copies-done r w h))
 
   -- a region that is dirty on no member is right on all
   already-right : (r : ℕ) (w : Disks) → some n s (λ d. isDirty labels d r) ≡ false → Mended r w → Mended (suc r) w

@@ -48,13 +48,16 @@ module _ (b : ℕ) where
 
   -- ---- stores that each keep Q
 
-  module _ (Q : Disks → Type 0) (Of : Store → Type 0) (keep : (x : Store) (w : Disks) → Of x → Q w → Q (apply b x w)) where
-    pub keeps : {xs : List Store} → Each Of xs → (w : Disks) → Q w → Q (applyAll b xs w)
+  abbrev pub Keeps : (Disks → Type 0) → Store → Type 0
+  Keeps Q x = (w : Disks) → Q w → Q (apply b x w)
+
+  module _ (Q : Disks → Type 0) where
+    pub keeps : {xs : List Store} → Each (Keeps Q) xs → (w : Disks) → Q w → Q (applyAll b xs w)
     unfolding applyAll
     keeps nil w q = q
-    keeps (cons p ps) w q = keeps ps _ (keep _ w p q)
+    keeps (cons p ps) w q = keeps ps _ (p w q)
 
-    pub keeps-along : {xs : List Store} → Each Of xs → (w : Disks) → Q w → Along Q xs w
+    pub keeps-along : {xs : List Store} → Each (Keeps Q) xs → (w : Disks) → Q w → Along Q xs w
     keeps-along ps w q k = keeps (each-take k ps) w q
 
   -- ---- loops

@@ -20,7 +20,7 @@ use Rattle.protocol.specs.Geometry.{mostDisks, regionOf, regions}
 use Rattle.protocol.specs.States.{currentOf, live, source}
 use Rattle.protocol.specs.Soundness.{InRange, FitLabel, FitCurrent, FitPower}
 use Rattle.protocol.specs.Stores.{Disks, Store, applyAll}
-use Rattle.protocol.specs.Lists.{moveToLive, preparations, marks, blockStores, fill, mends, writeList, joinList, cleanList, restartList}
+use Rattle.protocol.specs.Lists.{moveToLive, preparations, fill, mends, writeList, joinList, cleanList, restartList}
 use Rattle.protocol.specs.Naming.{Found, none, one, several, Names}
 use Rattle.protocol.specs.Outcomes.{Outcome, refusedOr, withDisks, disksOf, carryOut}
 use Rattle.protocol.specs.Calls.{theSet, foundBy, withOnline, formatted, zeroState}
@@ -28,16 +28,15 @@ use Rattle.protocol.specs.Calls.{formatRefusals}
 use Rattle.protocol.specs.Calls.{formatOutcome, readOutcome, writeOutcome, joinOutcome, cleanOutcome, restartOutcome, detachOutcome, attachOutcome, powerOffOutcome}
 use Rattle.protocol.specs.History.{Step, Cabinet, perform, outcomeOf}
 use Rattle.protocol.specs.Claims.{Proper}
-use Rattle.protocol.proofs.Loops.{Each, each-append, each-take}
-use Rattle.protocol.proofs.Runs.{apply-append}
+use Rattle.protocol.proofs.Loops.{Each, each-append}
+use Rattle.protocol.proofs.ListStores.{each-commit, each-mark, each-block, each-fill, each-clean, each-mend}
+use Rattle.protocol.proofs.FitStores.{FitDisks, KeepsFit, fit-write, fit-copy, fit-mark, fit-clear, fit-commit, fit-move, fit-live, current-write, current-mark, current-clear, commits-current, move-current, live-current}
+use Rattle.protocol.proofs.Runs.{apply-append, keeps, keeps-along}
 use Rattle.protocol.proofs.Naming.{found-names}
 use Rattle.protocol.proofs.Backing.{source-has, found-candidate}
 use Rattle.protocol.proofs.Areas.{region-known}
 use Rattle.protocol.proofs.Passing.{refused-or, cut-or-whole, Runs, NamesOne, block-passed, join-passed, clean-passed, restart-passed, plug-passed}
 use Rattle.protocol.proofs.Formatting.{freshLabel, fresh-label, no-label, fresh-slots, all-known, all-filled, format-passed}
-use Rattle.protocol.proofs.FitStores.{PlainStore, FitStore, FitDisks, stay-fit}
-use Rattle.protocol.proofs.FitStores.{each-commit, each-move, each-live, each-mark, each-block, each-fill, each-mends, each-clean, each-plain}
-use Rattle.protocol.proofs.FitStores.{stay-current, commits-current, move-current, live-current}
 
 -- ---- the set that a restart names is not empty, and inside R
 
@@ -72,12 +71,12 @@ module _ (s : State) (p : Proper s) where
   }
 
   -- fit stores leave it proper wherever they are cut, and whole, if they leave a current set g that fits
-  carried : (stores : List Store) (budget g : ℕ) (area output : List ℕ) → Each (FitStore n b) stores
+  carried : (stores : List Store) (budget g : ℕ) (area output : List ℕ) → Each (KeepsFit n b few) stores
       → FitCurrent n (applyAll b stores (disksOf s area) .labels) g → ProperAfter (carryOut stores budget g s area output)
   carried stores budget g area output each h =
       cut-or-whole stores budget g s area output ProperAfter
-      (λ l. after _ Stopped (stay-fit n b few (each-take budget each) _ (before area)) tt)
-      (λ l. after _ (Running g) (stay-fit n b few each _ (before area)) h)
+      (λ l. after _ Stopped (keeps-along b (FitDisks n b) each _ (before area) budget) tt)
+      (λ l. after _ (Running g) (keeps b (FitDisks n b) each _ (before area)) h)
 
   -- ---- calls of a running cabinet
 
@@ -96,26 +95,24 @@ module _ (s : State) (p : Proper s) where
     unfolding writeList preparations
     written k budget bytes area output hk alive =
         carried _ budget (live s) area output
-        (each-append (each-append (each-live n b _ _ live-known) (each-plain marked)) (each-plain stored))
-        (rw (apply-append, apply-append) (stay-current n b stored (live s) _ (stay-current n b marked (live s) _ moved)))
+        (each-append
+        (each-append (fit-live n b few (live s) live-known _) (each-mark n (s .labels) (live s) (regionOf k) (λ d l. fit-mark n b few d _ l (region-known b k hk))))
+        (each-block n (live s) k bytes (λ d l. fit-write n b few d k bytes)))
+        (rw (apply-append, apply-append)
+        (keeps b Current (each-block n (live s) k bytes (λ d l. current-write n b (live s) d k bytes)) _
+        (keeps b Current (each-mark n (s .labels) (live s) (regionOf k) (λ d l. current-mark n b (live s) d (regionOf k))) _
+        (live-current n b few (live s) live-known alive (disksOf s area) (before area) (currentOf (s .power)) now))))
       where
-        marked : Each (PlainStore n b) (marks n (s .labels) (live s) (regionOf k))
-        marked = each-mark n b (s .labels) (live s) (regionOf k) (region-known b k hk)
-
-        stored : Each (PlainStore n b) (blockStores n (live s) k bytes)
-        stored = each-block n b (live s) k bytes
-
-        moved : FitCurrent n (applyAll b (moveToLive n (currentOf (s .power)) (live s)) (disksOf s area) .labels) (live s)
-        moved = live-current n b few (live s) live-known alive (disksOf s area) (before area) (currentOf (s .power)) now
+        Current : Disks → Type 0
+        Current w = FitCurrent n (w .labels) (live s)
 
     joined : (d budget : ℕ) (area output : List ℕ) → d < n → 0 < live s
         → ProperAfter (carryOut (joinList s d) budget (union (live s) (singleton d)) s area output)
     unfolding joinList
     joined d budget area output hd alive =
         carried _ budget _ area output
-        (each-append (each-live n b _ _ live-known) (each-append filled (each-move n b _ known)))
-        (rw (apply-append, apply-append)
-        (move-current n b few _ known more _ (stay-fit n b few filled _ (stay-fit n b few (each-live n b _ _ live-known) _ (before area)))))
+        (each-append moves (each-append filled (fit-move n b few _ known)))
+        (rw (apply-append, apply-append) (move-current n b few _ known more _ (keeps b (FitDisks n b) filled _ (keeps b (FitDisks n b) moves _ (before area)))))
       where
         known : below (union (live s) (singleton d)) n ≡ true
         known = below-with (live s) d n live-known hd
@@ -123,12 +120,16 @@ module _ (s : State) (p : Proper s) where
         more : 0 < union (live s) (singleton d)
         more = let m = source-has (live s) alive in non-empty _ (source (live s)) (has-union (live s) (singleton d) _ ∙ rw m)
 
-        filled : Each (FitStore n b) (fill b (live s) d)
-        filled = each-plain (each-fill n b (live s) d)
+        moves : Each (KeepsFit n b few) (moveToLive n (currentOf (s .power)) (live s))
+        moves = fit-live n b few (live s) live-known (currentOf (s .power))
+
+        filled : Each (KeepsFit n b few) (fill b (live s) d)
+        filled = each-fill b (live s) d (λ k l. fit-copy n b few (source (live s)) d k)
 
     cleaned : (budget : ℕ) (area output : List ℕ) → ProperAfter (carryOut (cleanList s) budget (currentOf (s .power)) s area output)
     cleaned budget area output =
-        carried _ budget _ area output (each-plain (each-clean s)) (stay-current n b (each-clean s) _ (disksOf s area) now)
+        carried _ budget _ area output (each-clean s (λ d r l. fit-clear n b few d r l))
+        (keeps b (λ w. FitCurrent n (w .labels) (currentOf (s .power))) (each-clean s (λ d r l. current-clear n b (currentOf (s .power)) d r)) (disksOf s area) now)
 
   -- ---- calls of any cabinet
 
@@ -139,11 +140,11 @@ module _ (s : State) (p : Proper s) where
       let (filled, inside) = set-found (foundBy s) (found-names s (p .fit)) single in
       let known = below-inside (theSet (foundBy s)) (s .online) n inside (p .fit .online) in
       carried _ budget _ area output
-      (each-append mended (each-commit n b _ known))
-      (rw apply-append (commits-current n b few _ known filled _ (stay-fit n b few mended _ (before area))))
+      (each-append mended (each-commit n _ (fit-commit n b few _ known)))
+      (rw apply-append (commits-current n b few _ known filled _ (keeps b (FitDisks n b) mended _ (before area))))
     where
-      mended : Each (FitStore n b) (mends n b (s .labels) (theSet (foundBy s)))
-      mended = each-plain (each-mends n b (s .labels) (theSet (foundBy s)))
+      mended : Each (KeepsFit n b few) (mends n b (s .labels) (theSet (foundBy s)))
+      mended = each-mend n b (s .labels) (theSet (foundBy s)) (λ d k l hk. fit-copy n b few _ d k) (λ d r l. fit-clear n b few d r l)
 
   plugged : (online : ℕ) → below online n ≡ true → Proper (withOnline s online)
   plugged online h = record {

@@ -1,6 +1,6 @@
 -- A write, cut anywhere, leaves disks that a restart can take up: with the old contents of the book until the store on the source of its set, with the new
 -- ones from then on. Whole, it leaves disks that run with the new contents. Assumes nothing.
-use mathlib.Core.Path.{_≡_, refl, _∙_}
+use mathlib.Core.Path.{_≡_, refl, _∙_, subst}
 use mathlib.Core.Logic.{_≢_, _⊎_, inl, inr}
 use mathlib.Core.Bool.{Bool, true, false, cond}
 use mathlib.Core.List.{List, [], _∷_, _++_, append-nil}
@@ -18,8 +18,9 @@ use Rattle.protocol.specs.States.{isDirty, source}
 use Rattle.protocol.specs.Stores.{Disks, Store, write, mark, apply, applyAll}
 use Rattle.protocol.specs.Lists.{moveToLive, marks, preparations, blockStores}
 use Rattle.protocol.specs.Book.{Contents, replaced, include}
-use Rattle.protocol.proofs.Loops.{Each, nil, cons, each-unless, each-member}
-use Rattle.protocol.proofs.Runs.{Cut, in-first, in-second, cut, apply-append, Along, along-append, keeps-along, made-all, made-members}
+use Rattle.protocol.proofs.Loops.{Each, cons}
+use Rattle.protocol.proofs.ListStores.{each-mark, each-block}
+use Rattle.protocol.proofs.Runs.{Cut, in-first, in-second, cut, apply-append, Along, along-append, Keeps, keeps-along, made-all, made-members}
 use Rattle.protocol.proofs.Areas.{stored-size}
 use Rattle.protocol.proofs.Labels.{mark-stands, mark-keeps, move-dirty}
 use Rattle.protocol.proofs.Backing.{Agreed, source-has, agreed-recoverable}
@@ -29,22 +30,15 @@ use Rattle.protocol.proofs.Counting.{include-append, early, prepared, b
 
 -- ---- marks: the region's bit stands on every member afterwards
 
-data Marking (n : ℕ) : Store → Type 0 where
-  marking : {d r : ℕ} → d < n → Marking n (mark d r)
-
 module _ (n b : ℕ) (c : Contents) (l : ℕ) where
-  mark-step : (x : Store) (w : Disks) → Marking n x → Steady n b c l w → Steady n b c l (apply b x w)
+  mark-step : (d r : ℕ) → Keeps b (Steady n b c l) (mark d r)
   unfolding apply
-  mark-step x w (marking {d} {r} h) s = steady-dirties n b c w d _ l s
+  mark-step d r w s = steady-dirties n b c w d _ l s
 
   module _ (labels : List Label) (r : ℕ) (w : Disks) (h : Steady n b c l w)
       (same : (e q : ℕ) → isDirty labels e q ≡ true → isDirty (w .labels) e q ≡ true) where
-    each-marking : Each (Marking n) (marks n labels l r)
-    unfolding marks
-    each-marking = each-member n l _ (λ d k m. each-unless (isDirty labels d r) (λ z. cons (marking k) nil))
-
     marks-cut : Along b (Restartable n b c) (marks n labels l r) w
-    marks-cut k = steady-stops n b c (keeps-along b (Steady n b c l) (Marking n) mark-step each-marking w h k)
+    marks-cut k = steady-stops n b c (keeps-along b (Steady n b c l) (each-mark n labels l r (λ d i. mark-step d r)) w h k)
 
     record Marked (v : Disks) : Type 0 where
       steady : Steady n b c l v
@@ -52,7 +46,7 @@ module _ (n b : ℕ) (c : Contents) (l : ℕ) where
 
     mark-it : (d : ℕ) → d < n → (v : Disks) → Marked v → Marked (apply b (mark d r) v)
     mark-it d k v s = record {
-      steady = mark-step _ v (marking k) (s .steady);
+      steady = mark-step d r v (s .steady);
       stand = λ e q z. mark-keeps b d r v (omega (arith, s .steady .room)) e q (s .stand e q z);
     }
 
@@ -147,13 +141,6 @@ module _ (n b : ℕ) (c : Contents) (l k : ℕ) (hk : k < b) (bytes : List ℕ) 
       go d m j hj (inl e) = inl (rw e (h .dirty d m))
       go d m j hj (inr ne) = inr (h .others d m j hj ne)
 
-  data BlockStore : Store → Type 0 where
-    block-store : {d : ℕ} → d < n → BlockStore (write d k bytes)
-
-  each-block-store : Each BlockStore (blockStores n l k bytes)
-  unfolding blockStores
-  each-block-store = each-member n l _ (λ d h m. cons (block-store h) nil)
-
   record Stored (w : Disks) : Type 0 where
     storing : Storing w
     at-source : Right n b new w (source l) k
@@ -165,17 +152,17 @@ module _ (n b : ℕ) (c : Contents) (l k : ℕ) (hk : k < b) (bytes : List ℕ) 
     first : Stored (apply b (write (source l) k bytes) w)
     first = record { storing = store-step (source l) in-l w (begin w h dirty); at-source = stored-here (source l) in-l w (begin w h dirty) }
 
-    next : (x : Store) (v : Disks) → BlockStore x → Stored v → Stored (apply b x v)
-    next x v (block-store {d} hd) s = record {
+    next : (d : ℕ) → d < n → Keeps b Stored (write d k bytes)
+    next d hd v s = record {
       storing = store-step d hd v (s .storing);
       at-source = still-here d (source l) hd in-l v (s .storing) (s .at-source);
     }
 
     later-cut : (later : List Store) → blockStores n l k bytes ≡ write (source l) k bytes ∷ later → (j : ℕ)
         → Restartable n b new (applyAll b (take j later) (apply b (write (source l) k bytes) w))
-    later-cut later e j = let s = keeps-along b Stored BlockStore next (tail (rw e at each-block-store)) _ first j in open-to-restart _ (s .storing) (s .at-source)
+    later-cut later e j = let s = keeps-along b Stored (tail (subst (Each (Keeps b Stored)) e (each-block n l k bytes next))) _ first j in open-to-restart _ (s .storing) (s .at-source)
       where
-        tail : {x : Store} {xs : List Store} → Each BlockStore (x ∷ xs) → Each BlockStore xs
+        tail : {x : Store} {xs : List Store} → Each (Keeps b Stored) (x ∷ xs) → Each (Keeps b Stored) xs
         tail (cons p ps) = ps
 
     blocks-done : Steady n b new l (applyAll b (blockStores n l k bytes) w)
