@@ -67,7 +67,7 @@ module _ (n b : ℕ) (few : n ≤ mostDisks) where
   fit-clear d r hd w = dirty-step w d _ hd (λ h. below-difference _ _ _ (h .labels .each d hd .dirty))
 
   module _ (s : ℕ) (known : below s n ≡ true) where
-    pub fit-propose : (d : ℕ) → d < n → has s d ≡ true → KeepsFit (propose d s)
+    fit-propose : (d : ℕ) → d < n → has s d ≡ true → KeepsFit (propose d s)
     unfolding apply
     fit-propose d hd m w h =
         let old = h .labels .each d hd in
@@ -89,7 +89,7 @@ module _ (n b : ℕ) (few : n ≤ mostDisks) where
 -- ---- the current set
 
 module _ (n b g : ℕ) where
-  abbrev pub KeepsCurrent : Store → Type 0
+  abbrev KeepsCurrent : Store → Type 0
   KeepsCurrent x = Keeps b (λ w. FitCurrent n (w .labels) g) x
 
   -- it is what it was where no C and no T changes ..

@@ -24,11 +24,11 @@ module _ {P : Store → Type 0} where
 
   pub each-proposal : (n s : ℕ) → ((d : ℕ) → d < n → has s d ≡ true → P (propose d s)) → Each P (proposals n s)
   unfolding proposals
-  each-proposal n s = one-each n s (λ d. propose d s)
+  each-proposal n s = one-each _ _ _
 
   pub each-commit : (n s : ℕ) → ((d : ℕ) → d < n → has s d ≡ true → P (commit d s)) → Each P (commits n s)
   unfolding commits
-  each-commit n s = one-each n s (λ d. commit d s)
+  each-commit n s = one-each _ _ _
 
   module _ (n s : ℕ) (p : (d : ℕ) → d < n → has s d ≡ true → P (propose d s)) (c : (d : ℕ) → d < n → has s d ≡ true → P (commit d s)) where
     pub each-move : Each P (move n s)
@@ -47,7 +47,7 @@ module _ {P : Store → Type 0} where
 
   pub each-block : (n l k : ℕ) (bytes : List ℕ) → ((d : ℕ) → d < n → P (write d k bytes)) → Each P (blockStores n l k bytes)
   unfolding blockStores
-  each-block n l k bytes h = one-each n l (λ d. write d k bytes) (λ d i m. h d i)
+  each-block n l k bytes h = one-each _ _ _ (λ d i m. h d i)
 
   pub each-fill : (b l d : ℕ) → ((k : ℕ) → k < b → P (copy (source l) d k)) → Each P (fill b l d)
   unfolding fill
@@ -60,17 +60,17 @@ module _ {P : Store → Type 0} where
   -- ---- restart
 
   -- of what each block of a region gives
-  pub each-of-region : (b r : ℕ) (f : ℕ → List Store) → ((k : ℕ) → k < b → Each P (f k)) → Each P (forBlocks b r f)
+  each-of-region : (b r : ℕ) (f : ℕ → List Store) → ((k : ℕ) → k < b → Each P (f k)) → Each P (forBlocks b r f)
   unfolding forBlocks
   each-of-region b r f h = each-ascending regionSize _ (λ i l. each-if (ltb (r * regionSize + i) b) (λ e. h (r * regionSize + i) (ltb-true _ _ e)))
 
   pub each-copy : (n b s r : ℕ) → ((d k : ℕ) → d < n → k < b → P (copy (source s) d k)) → Each P (copies n b s r)
   unfolding copies
-  each-copy n b s r h = each-of-region b r _ (λ k hk. one-each n (difference s (singleton (source s))) (λ d. copy (source s) d k) (λ d l m. h d k l hk))
+  each-copy n b s r h = each-of-region b r _ (λ k hk. one-each _ _ _ (λ d l m. h d k l hk))
 
   pub each-clear : (n s r : ℕ) → ((d : ℕ) → d < n → has s d ≡ true → P (clear d r)) → Each P (clears n s r)
   unfolding clears
-  each-clear n s r = one-each n s (λ d. clear d r)
+  each-clear n s r = one-each _ _ _
 
   pub each-mend : (n b : ℕ) (labels : List Label) (s : ℕ) → ((d k : ℕ) → d < n → k < b → P (copy (source s) d k)) → ((d r : ℕ) → d < n → P (clear d r))
       → Each P (mends n b labels s)

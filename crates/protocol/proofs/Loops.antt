@@ -106,11 +106,6 @@ module _ {A : Type 0} {P : A → Type 0} where
   unfolding forEach
   each-member n s f h = each-ascending n _ (λ d l. each-if (has s d) (h d l))
 
--- what holds of each holds of each by a weaker property
-pub each-map : {A : Type 0} {P Q : A → Type 0} {xs : List A} → ((x : A) → P x → Q x) → Each P xs → Each Q xs
-each-map f nil = nil
-each-map f (cons p ps) = cons (f _ p) (each-map f ps)
-
 -- ---- how a loop begins, and how long its list is
 
 -- a loop that gives nothing before a begins with what it gives for a
