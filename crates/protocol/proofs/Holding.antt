@@ -12,10 +12,10 @@ use Rattle.sets.specs.Sets.{has}
 use Rattle.sets.proofs.Bounds.{member-below}
 use Rattle.protocol.specs.Geometry.{blockSize, regionOf, areaSize, block, withBlock}
 use Rattle.protocol.specs.States.{blank, labelAt, isDirty, source}
-use Rattle.protocol.specs.Stores.{Disks, withDirty, onArea, onLabel}
+use Rattle.protocol.specs.Stores.{Disks, copy, withDirty, onArea, onLabel, apply}
 use Rattle.protocol.specs.Naming.{second, Backs}
 use Rattle.protocol.specs.Book.{Contents}
-use Rattle.protocol.proofs.Areas.{stored-size, stored-same, stored-other}
+use Rattle.protocol.proofs.Areas.{block-length, stored-size, stored-same, stored-other}
 use Rattle.protocol.proofs.Labels.{field-set}
 use Rattle.protocol.proofs.Backing.{committedAt, tentativeAt, Backed, Agreed, Recoverable, agreed-recoverable, source-has}
 
@@ -74,7 +74,7 @@ module _ (n b : ℕ) (c : Contents) where
         go (inl p) (inr q) = stored-other n b (w .area) size d k hd hk bytes full e m he hm (inr q) ∙ old
         go (inr p) q = stored-other n b (w .area) size d k hd hk bytes full e m he hm (inl p) ∙ old
 
-    pub steady-stores : (g : ℕ) → Steady g w → Steady g stored
+    steady-stores : (g : ℕ) → Steady g w → Steady g stored
     steady-stores g h = record {
       room = h .room;
       size = stored-size n b (w .area) size d k hd hk bytes full;
@@ -82,7 +82,7 @@ module _ (n b : ℕ) (c : Contents) where
       holds = λ e m j l. stays-right e j (member-below g n e (h .agreed .known) m) l (h .holds e m j l);
     }
 
-    pub restartable-stores : Restartable w → Restartable stored
+    restartable-stores : Restartable w → Restartable stored
     restartable-stores h = record {
       room = h .room;
       size = stored-size n b (w .area) size d k hd hk bytes full;
@@ -98,6 +98,28 @@ module _ (n b : ℕ) (c : Contents) where
             → (isDirty (w .labels) e (regionOf j) ≡ true) ⊎ Right stored e j
         go e j he l (inl q) = inl q
         go e j he l (inr q) = inr (stays-right e j he l q)
+
+  -- ---- a block that is copied from a disk a that has it right
+
+  module _ (w : Disks) (size : length (w .area) ≡ areaSize n b) (a d k : ℕ) (ha : a < n) (hd : d < n) (hk : k < b) (right : Right w a k) where
+    full : length (block b (w .area) a k) ≡ blockSize
+    full = block-length n b (w .area) size a k ha hk
+
+    pub copied : Right (apply b (copy a d k) w) d k
+    unfolding apply
+    copied = now-right w size d k hd hk _ full right
+
+    pub copy-stays : (e m : ℕ) → e < n → m < b → Right w e m → Right (apply b (copy a d k) w) e m
+    unfolding apply
+    copy-stays = stays-right w size d k hd hk _ full right
+
+    pub steady-copies : (g : ℕ) → Steady g w → Steady g (apply b (copy a d k) w)
+    unfolding apply
+    steady-copies = steady-stores w size d k hd hk _ full right
+
+    pub restartable-copies : Restartable w → Restartable (apply b (copy a d k) w)
+    unfolding apply
+    restartable-copies = restartable-stores w size d k hd hk _ full right
 
   -- ---- a dirty map
 

@@ -13,14 +13,13 @@ use Rattle.sets.proofs.Operations.{has-union, has-singleton}
 use Rattle.sets.proofs.Bounds.{member-below, below-pow, below-with}
 use Rattle.sets.proofs.LowestMember.{non-empty}
 use Rattle.protocol.specs.States.{source}
-use Rattle.protocol.specs.Stores.{Disks, copy, apply, applyAll}
+use Rattle.protocol.specs.Stores.{Disks, copy, applyAll}
 use Rattle.protocol.specs.Lists.{move, moveToLive, fill}
 use Rattle.protocol.specs.Book.{Contents}
 use Rattle.protocol.proofs.ListStores.{each-fill}
 use Rattle.protocol.proofs.Runs.{apply-append, Along, along-append, Keeps, keeps-along, made-all}
-use Rattle.protocol.proofs.Areas.{block-length}
 use Rattle.protocol.proofs.Backing.{source-has}
-use Rattle.protocol.proofs.Holding.{Right, Holds, Steady, Restartable, steady-stops, steady-stores, now-right, stays-right}
+use Rattle.protocol.proofs.Holding.{Right, Holds, Steady, Restartable, steady-stops, steady-copies, copied, copy-stays}
 use Rattle.protocol.proofs.Moves.{live-cut, live-done, move-cut, move-done}
 
 module _ (n b : ℕ) (c : Contents) where
@@ -34,18 +33,7 @@ module _ (n b : ℕ) (c : Contents) where
     source-below w h = member-below l n (source l) (h .agreed .known) (source-has l (h .agreed .filled))
 
     copy-step : (k : ℕ) → k < b → Keeps b (Steady n b c l) (copy (source l) d k)
-    unfolding apply
-    copy-step k hk w h =
-        steady-stores n b c w (h .size) d k hd hk _ (block-length n b (w .area) (h .size) (source l) k (source-below w h) hk) (source-right w h k hk) l h
-
-    copied : (k : ℕ) → k < b → (w : Disks) → Steady n b c l w → Right n b c (apply b (copy (source l) d k) w) d k
-    unfolding apply
-    copied k hk w h = now-right n b c w (h .size) d k hd hk _ (block-length n b (w .area) (h .size) (source l) k (source-below w h) hk) (source-right w h k hk)
-
-    still-copied : (k j : ℕ) → k < b → j < b → (w : Disks) → Steady n b c l w → Right n b c w d j → Right n b c (apply b (copy (source l) d k) w) d j
-    unfolding apply
-    still-copied k j hk hj w h q =
-        stays-right n b c w (h .size) d k hd hk _ (block-length n b (w .area) (h .size) (source l) k (source-below w h) hk) (source-right w h k hk) d j hd hj q
+    copy-step k hk w h = steady-copies n b c w (h .size) (source l) d k (source-below w h) hd hk (source-right w h k hk) l h
 
     fill-cut : (w : Disks) → Steady n b c l w → Along b (Restartable n b c) (fill b l d) w
     fill-cut w h k = steady-stops n b c (keeps-along b (Steady n b c l) (each-fill b l d copy-step) w h k)
@@ -53,8 +41,8 @@ module _ (n b : ℕ) (c : Contents) where
     fill-done : (w : Disks) → Steady n b c l w → Steady n b c l (applyAll b (fill b l d) w) × Holds n b c (applyAll b (fill b l d) w) d
     unfolding fill applyAll
     fill-done w h = made-all b (λ k. copy (source l) d k ∷ []) (Steady n b c l) (λ k v. Right n b c v d k) b
-        (λ k hk v s. (copy-step k hk v s, copied k hk v s))
-        (λ k j hk r v s q. still-copied k j hk (omega arith) v s q)
+        (λ k hk v s. (copy-step k hk v s, copied n b c v (s .size) (source l) d k (source-below v s) hd hk (source-right v s k hk)))
+        (λ k j hk r v s q. copy-stays n b c v (s .size) (source l) d k (source-below v s) hd hk (source-right v s k hk) d j hd (omega arith) q)
         w h
 
   -- ---- the whole join

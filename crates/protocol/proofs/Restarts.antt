@@ -21,10 +21,10 @@ use Rattle.protocol.specs.Book.{Contents}
 use Rattle.protocol.proofs.Loops.{some-not, Each, nil, cons, each-if, each-member}
 use Rattle.protocol.proofs.ListStores.{each-copy, each-clear}
 use Rattle.protocol.proofs.Runs.{apply-append, Along, along-append, along-nil, Keeps, keeps, keeps-along, loop, loop-along, made-all, made-members}
-use Rattle.protocol.proofs.Areas.{region-known, block-length}
+use Rattle.protocol.proofs.Areas.{region-known}
 use Rattle.protocol.proofs.Labels.{clear-keeps}
 use Rattle.protocol.proofs.Backing.{Backed, source-has}
-use Rattle.protocol.proofs.Holding.{Right, Steady, Restartable, now-right, stays-right, restartable-stores, restartable-dirties, backed-still}
+use Rattle.protocol.proofs.Holding.{Right, Steady, Restartable, copied, copy-stays, restartable-copies, restartable-dirties, backed-still}
 use Rattle.protocol.proofs.Moves.{Committing, commits-cut, commits-done}
 
 module _ (n b : ℕ) (c : Contents) (s : ℕ) (labels : List Label) where
@@ -48,26 +48,20 @@ module _ (n b : ℕ) (c : Contents) (s : ℕ) (labels : List Label) where
     source-right = h .restartable .sources s (h .backed)
 
     module _ (d k : ℕ) (hd : d < n) (hk : k < b) where
-      copied : Right n b c (apply b (copy (source s) d k) w) d k
-      unfolding apply
-      copied = let z = h .restartable .size in
-          now-right n b c w z d k hd hk _ (block-length n b (w .area) z (source s) k (below _ source-in) hk) (source-right k hk)
+      copy-right : Right n b c (apply b (copy (source s) d k) w) d k
+      copy-right = copied n b c w (h .restartable .size) (source s) d k (below _ source-in) hd hk (source-right k hk)
 
       still-right : (e m : ℕ) → e < n → m < b → Right n b c w e m → Right n b c (apply b (copy (source s) d k) w) e m
-      unfolding apply
-      still-right = let z = h .restartable .size in
-          stays-right n b c w z d k hd hk _ (block-length n b (w .area) z (source s) k (below _ source-in) hk) (source-right k hk)
+      still-right = copy-stays n b c w (h .restartable .size) (source s) d k (below _ source-in) hd hk (source-right k hk)
 
       copy-keeps : Mended r (apply b (copy (source s) d k) w)
       unfolding apply
-      copy-keeps =
-          let z = h .restartable .size in
-          record {
-            restartable = restartable-stores n b c w z d k hd hk _ (block-length n b (w .area) z (source s) k (below _ source-in) hk) (source-right k hk) (h .restartable);
-            backed = h .backed;
-            cleaner = h .cleaner;
-            right = λ e m j hj l. still-right e j (below e m) hj (h .right e m j hj l);
-          }
+      copy-keeps = record {
+        restartable = restartable-copies n b c w (h .restartable .size) (source s) d k (below _ source-in) hd hk (source-right k hk) (h .restartable);
+        backed = h .backed;
+        cleaner = h .cleaner;
+        right = λ e m j hj l. still-right e j (below e m) hj (h .right e m j hj l);
+      }
 
   -- ---- the copies of region r
 
@@ -94,7 +88,7 @@ module _ (n b : ℕ) (c : Contents) (s : ℕ) (labels : List Label) where
   -- the copies of one block reach every other member, and undo no other block's
   block-copied : (r k : ℕ) → k < b → (w : Disks) → Mended r w → CopiedTo (applyAll b (blockCopies k) w) k
   block-copied r k hk w h = made-members b (λ d. copy (source s) d k) others (Mended r) (λ d v. Right n b c v d k) n
-      (λ d hd m v g. (copy-keeps g d k hd hk, copied g d k hd hk))
+      (λ d hd m v g. (copy-keeps g d k hd hk, copy-right g d k hd hk))
       (λ d e hd m l v g q. still-right g d k hd hk e k (omega arith) hk q)
       w h .1
 
