@@ -9,7 +9,7 @@ use native.Mathlib.Omega.{arith}
 use native.Mathlib.Decide.{decLt}
 use lib.Dec.{ltb}
 use lib.ListN.{length, replicate, length-append, length-replicate, getD-replicate, List·getD-eq-default}
-use borrow.Author.Tests.{ltb-true, lt-ltb, ltb-false}
+use borrow.Author.Tests.{ltb-true, lt-ltb, ltb-false, le-ltb, eq-eqb}
 use Rattle.sets.specs.Sets.{has, all}
 use Rattle.sets.proofs.Tests.{or-parts}
 use Rattle.sets.proofs.Operations.{has-all}
@@ -24,9 +24,12 @@ use Rattle.protocol.specs.Geometry.{mostDisks, mostBlocks, areaSize}
 use Rattle.protocol.specs.States.{blank, labelAt, source}
 use Rattle.protocol.specs.Soundness.{InRange}
 use Rattle.protocol.specs.Naming.{second, Backs}
+use Rattle.protocol.specs.Outcomes.{refusedOr}
 use Rattle.protocol.specs.Calls.{formatRefusals, formatted, zeroArea, zeroState, formatOutcome}
 use Rattle.protocol.specs.History.{cabinetOf}
+use Rattle.protocol.specs.Claims.{FormatDone}
 use Rattle.protocol.specs.Book.{zeroContents, opened}
+use Rattle.protocol.proofs.Soundness.{not-outside}
 use Rattle.protocol.proofs.Turns.{filled-up}
 use Rattle.protocol.proofs.Areas.{zero-block}
 use Rattle.protocol.proofs.Backing.{Backed, source-has}
@@ -98,7 +101,7 @@ opened-safe n b range = record {
   };
 }
 
--- ---- what is known where it is not refused
+-- ---- when it is refused, and what is known where it is not
 
 pub format-passed : (n b : ℕ) (area : List ℕ) → firstOf (formatRefusals n b area) ≡ 0 → InRange n b
 unfolding formatRefusals
@@ -107,6 +110,11 @@ format-passed n b area e =
     let (some, most) = in-range narrow n (no 0) in
     let (few, many) = or-parts (ltb b 1) (ltb mostBlocks b) (no 1) in
     record { some-disk = some; disks = most; some-block = ltb-false _ _ few; blocks = ltb-false _ _ many }
+
+pub format-is-done : FormatDone
+unfolding formatOutcome refusedOr formatRefusals firstOf
+format-is-done area output n b range size =
+    rw (not-outside n b range, le-ltb b 1 (range .some-block), le-ltb mostBlocks b (range .blocks), eq-eqb _ _ size)
 
 -- a done fresh gives what the book begins with, whatever was in the area
 pub format-done : (n b : ℕ) (area output : List ℕ) → formatOutcome area output n b .answer .refusal ≡ 0

@@ -1,6 +1,5 @@
 -- From what save gives, and the state's own reach, assembling gives the state after a cut. Assumes nothing.
 use mathlib.Core.Path.{_≡_, refl, sym, ap, _∙_}
-use mathlib.Core.Bool.{false}
 use mathlib.Core.List.{List, append-assoc}
 use Prim.Native.Nat.{ℕ, _*_, _<_}
 use native.Mathlib.Nat.{le-refl, lt-of-lt-of-le, add-sub-of-le}
@@ -14,7 +13,7 @@ use Rattle.sets.proofs.Bounds.{below-pow}
 use Rattle.label.specs.declared.Label.{Label}
 use Rattle.label.specs.Form.{narrow}
 use Rattle.label.specs.Bytes.{encode}
-use Rattle.label.specs.Refusals.{firstOf, outside, wrongSets}
+use Rattle.label.specs.Refusals.{firstOf, wrongSets}
 use Rattle.label.specs.Reading.{found}
 use Rattle.label.specs.Codec.{Writable}
 use Rattle.label.proofs.Accepting.{accepted}
@@ -27,17 +26,12 @@ use Rattle.protocol.specs.Soundness.{InRange, FitLabel, Sound}
 use Rattle.protocol.specs.Outcomes.{refusedOr}
 use Rattle.protocol.specs.Saving.{slotSize, slotBytes, saveOutcome, slotReading, slotRefusals, assembleRefusals, assembled, assembleAnswer, SavedAssembles}
 use Rattle.protocol.proofs.Loops.{Each, each-ascending}
-use Rattle.protocol.proofs.Soundness.{test-agrees}
+use Rattle.protocol.proofs.Soundness.{not-outside, test-agrees}
 use Rattle.protocol.proofs.Turns.{even-length, even-turn}
 use Rattle.protocol.proofs.Refusals.{Unmet, none-given, none-applies}
 use Rattle.protocol.proofs.Assembling.{right-set, slot-numbered, label-read, blank-past, all-slots}
 
 -- ---- one label
-
--- a count of disks that is in range is not refused
-not-outside : (n b : ℕ) → InRange n b → outside narrow n ≡ false
-unfolding outside
-not-outside n b h = rw (le-ltb n 1 (h .some-disk), le-ltb mostDisks n (h .disks))
 
 module _ (n b d : ℕ) (l : Label) (range : InRange n b) (low : d < n) (fit : FitLabel n b d l) where
   -- the label writer takes a sound state's label

@@ -1,7 +1,7 @@
 -- The test of soundness passes exactly where every part of soundness holds. Assumes nothing.
 use mathlib.Core.Path.{_≡_, refl}
 use mathlib.Core.Logic.{_⊎_, inl, inr, _↔_}
-use mathlib.Core.Bool.{Bool, true, not, _&&_, _||_, or-true}
+use mathlib.Core.Bool.{Bool, true, false, not, _&&_, _||_, or-true}
 use mathlib.Core.List.{List}
 use Prim.Native.Nat.{ℕ, _≤_, _<_}
 use native.Mathlib.Omega.{arith}
@@ -11,6 +11,8 @@ use borrow.Author.Tests.{leb-true, le-leb, eqb-true, eq-eqb, ltb-true, lt-ltb, l
 use Rattle.sets.specs.Sets.{has, below}
 use Rattle.sets.proofs.Tests.{and-parts, or-either, implied, implies}
 use Rattle.label.specs.declared.Label.{Label}
+use Rattle.label.specs.Form.{narrow}
+use Rattle.label.specs.Refusals.{outside}
 use Rattle.protocol.specs.declared.Power.{Power}
 use Rattle.protocol.specs.declared.Power.the-variants.{Stopped, Running}
 use Rattle.protocol.specs.Geometry.{mostDisks, mostBlocks, regions}
@@ -29,6 +31,11 @@ in-range n b = (
       record { some-disk = leb-true _ _ p; disks = leb-true _ _ q; some-block = leb-true _ _ r; blocks = leb-true _ _ t },
   λ h. rw (le-leb 1 n (h .some-disk), le-leb n mostDisks (h .disks), le-leb 1 b (h .some-block), le-leb b mostBlocks (h .blocks)),
 )
+
+-- a count of disks that is in range is not refused
+pub not-outside : (n b : ℕ) → InRange n b → outside narrow n ≡ false
+unfolding outside
+not-outside n b h = rw (le-ltb n 1 (h .some-disk), le-ltb mostDisks n (h .disks))
 
 fit-set : (n d s : ℕ) → (fitSet n d s ≡ true) ↔ FitSet n d s
 unfolding fitSet

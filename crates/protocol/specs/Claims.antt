@@ -7,15 +7,21 @@ use lib.ListN.{length}
 use Rattle.sets.specs.Sets.{size}
 use Rattle.protocol.specs.declared.Call.the-variants.{Read, Write}
 use Rattle.protocol.specs.declared.State.{State}
-use Rattle.protocol.specs.Geometry.{mostDisks}
+use Rattle.protocol.specs.Geometry.{mostDisks, areaSize}
 use Rattle.protocol.specs.States.{currentOf, live}
-use Rattle.protocol.specs.Soundness.{Sound}
+use Rattle.protocol.specs.Soundness.{InRange, Sound}
 use Rattle.protocol.specs.Lists.{preparations, writeList}
 use Rattle.protocol.specs.Calls.{formatOutcome, writeOutcome}
 use Rattle.protocol.specs.Saving.{saveOutcome, assembleAnswer}
 use Rattle.protocol.specs.History.{Step, Cabinet, outcomeOf}
 use Rattle.protocol.specs.Book.{Contents, replaced, carriedBy, entered}
 use Rattle.protocol.specs.Demand3.{CallIn, result, book}
+
+-- ---- fresh
+
+-- A fresh call is done for every n and b in range and an area of their size: what is said of lists that a done fresh begins is said of each such cabinet.
+abbrev pub FormatDone : Type 0
+FormatDone = (area output : List ℕ) (n b : ℕ) → InRange n b → length area ≡ areaSize n b → formatOutcome area output n b .answer .refusal ≡ 0
 
 -- ---- soundness
 

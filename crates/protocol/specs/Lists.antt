@@ -53,7 +53,7 @@ writeList s k bytes =
 unfoldable pub fill : ℕ → ℕ → ℕ → List Store
 fill b l d = ascending b (λ k. copy (source l) d k ∷ [])
 
--- "Join disk d: if L differs from G, move to L. Copy .. Then move to L with d."
+-- "Join disk d: if L differs from G, move to L. Copy .. Then move to L with d. The dirty map of d is not touched."
 unfoldable pub joinList : State → ℕ → List Store
 joinList s d =
     moveToLive (s .disks) (currentOf (s .power)) (live s)
