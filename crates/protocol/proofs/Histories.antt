@@ -1,4 +1,4 @@
--- A list of calls, and the book beside it: what holds after any list that a done fresh begins. Assumes nothing.
+-- Lists of calls, and the book beside them: what every call keeps holds after any list. Assumes nothing.
 use mathlib.Core.Path.{_≡_, refl}
 use mathlib.Core.List.{List, [], _∷_, _++_}
 use mathlib.Core.Bool.{Bool}

@@ -1,4 +1,4 @@
--- What the stores of each list are: a property that holds of each of them holds along the list. Assumes nothing.
+-- Which stores each list has: what holds of every such store holds of each in the list. Assumes nothing.
 use mathlib.Core.Path.{_≡_}
 use mathlib.Core.Bool.{true}
 use mathlib.Core.List.{List, [], _∷_}

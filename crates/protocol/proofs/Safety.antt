@@ -58,7 +58,7 @@ carried : (c : Contents) (s : State) (area output : List ℕ) (stores : List Sto
 carried c s area output stores budget g along done =
     cut-or-whole stores budget g s area output (SafeAfter c) (λ l. record { held = along budget }) (λ l. record { held = done })
 
--- ---- the calls of a running cabinet
+-- ---- the calls that store
 
 module _ (c : Contents) (s : State) (area output : List ℕ) where
   abbrev w : Disks
@@ -105,8 +105,6 @@ module _ (c : Contents) (s : State) (area output : List ℕ) where
   clean-safe budget (Running g) h e =
       carried c (withPower (Running g)) area output (cleanList (withPower (Running g))) budget g
       (clean-cut (s .disks) (s .blocks) c (withPower (Running g)) g w h) (clean-done (s .disks) (s .blocks) c (withPower (Running g)) g w h)
-
-  -- ---- restart
 
   restart-safe : (budget : ℕ) (p : Power) → Held (s .disks) (s .blocks) c w p → firstOf (restartRefusals (withPower p) area) ≡ 0
       → SafeAfter c (carryOut (restartList (withPower p) (theSet (foundBy (withPower p)))) budget (theSet (foundBy (withPower p))) (withPower p) area output)
