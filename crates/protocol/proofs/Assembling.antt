@@ -3,15 +3,14 @@ use mathlib.Core.Path.{_≡_, refl}
 use mathlib.Core.Logic.{_⊎_, inl, inr, _↔_}
 use mathlib.Core.Bool.{true, false, not, _&&_, _||_, and-false}
 use mathlib.Core.List.{List}
-use Prim.Native.Nat.{ℕ, zero, suc, _≤_, _<_}
+use Prim.Native.Nat.{ℕ, zero, _≤_, _<_}
 use native.Mathlib.Nat.{add-sub-of-le}
-use native.Mathlib.Omega.{arith}
 use lib.Dec.{eqb, ltb, lit<}
 use lib.Pow.{pow-pos}
 use lib.ListN.{length, length-append, length-replicate}
-use borrow.Author.Tests.{ltb-false, eqb-true, not-false}
+use borrow.Author.Tests.{ltb-false, eqb-true, not-false, not-true}
 use Rattle.sets.specs.Sets.{has, below}
-use Rattle.sets.proofs.Tests.{Test, passes, fails, test, clash, and-parts, or-parts}
+use Rattle.sets.proofs.Tests.{Test, passes, fails, test, and-parts, or-parts, positive}
 use Rattle.sets.proofs.Bounds.{below-pow}
 use Rattle.label.specs.declared.Label.{Label}
 use Rattle.label.specs.declared.Reading.{Reading}
@@ -51,11 +50,7 @@ module _ (d n b : ℕ) where
   -- each refusal of a slot has a number, if it applies
   pub slot-numbered : (r : Reading) → Each Numbered (slotRefusals d n b r)
   unfolding slotRefusals
-  slot-numbered r = cons (positive (r .refusal)) (cons (λ e. lit< tt) (cons (λ e. lit< tt) nil))
-    where
-      positive : (m : ℕ) → not (eqb m 0) ≡ true → 0 < m
-      positive zero e = clash e refl
-      positive (suc m) e = omega arith
+  slot-numbered r = cons (λ e. positive (r .refusal) (not-true _ e)) (cons (λ e. lit< tt) (cons (λ e. lit< tt) nil))
 
   -- a slot to which none applies is read as a label that a sound state may have
   slot-fits : (s : List ℕ) → Each Unmet (slotRefusals d n b (reading narrow s)) → FitLabel n b d (reading narrow s .label)

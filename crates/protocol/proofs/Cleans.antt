@@ -1,9 +1,9 @@
--- A clean, cut anywhere, leaves disks that run as before: every member of the current set holds the book, so its dirty bits are not needed. Assumes nothing.
+-- A clean, cut anywhere, leaves disks that run as before: every member of the current set holds the reference contents, so its dirty bits are not needed. Assumes nothing.
 use Prim.Native.Nat.{ℕ}
 use Rattle.protocol.specs.declared.State.{State}
 use Rattle.protocol.specs.Stores.{Disks, clear, apply, applyAll}
 use Rattle.protocol.specs.Lists.{cleanList}
-use Rattle.protocol.specs.Book.{Contents}
+use Rattle.protocol.specs.Reference.{Contents}
 use Rattle.protocol.proofs.ListStores.{each-clean}
 use Rattle.protocol.proofs.Runs.{Along, Keeps, keeps, keeps-along}
 use Rattle.protocol.proofs.Holding.{Steady, Restartable, steady-stops, steady-dirties}

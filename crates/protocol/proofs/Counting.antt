@@ -14,7 +14,7 @@ use Rattle.protocol.specs.Loops.{forEach}
 use Rattle.protocol.specs.States.{source}
 use Rattle.protocol.specs.Stores.{Store, write}
 use Rattle.protocol.specs.Lists.{preparations, blockStores}
-use Rattle.protocol.specs.Book.{isBlockStore, include}
+use Rattle.protocol.specs.Reference.{isBlockStore, include}
 use Rattle.protocol.proofs.Loops.{Each, nil, cons, each-append, each-take, begins}
 use Rattle.protocol.proofs.ListStores.{each-live, each-mark}
 use Rattle.protocol.proofs.Backing.{source-has}

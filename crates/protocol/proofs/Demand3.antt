@@ -14,15 +14,15 @@ use Rattle.protocol.specs.Naming.{one}
 use Rattle.protocol.specs.Outcomes.{Outcome}
 use Rattle.protocol.specs.Calls.{foundBy, restartOutcome, formatOutcome}
 use Rattle.protocol.specs.History.{Step, Cabinet, perform, outcomeOf}
-use Rattle.protocol.specs.Book.{noted}
-use Rattle.protocol.specs.Demand3.{CallIn, book, Demand3Holds}
+use Rattle.protocol.specs.Reference.{recorded}
+use Rattle.protocol.specs.Demand3.{CallIn, reference, Demand3Holds}
 use Rattle.protocol.proofs.RestartCalls.{one-set, finished, found}
-use Rattle.protocol.proofs.Invariant.{holds-book, bookBefore, outcomeHere, good-before, good-after, cabinet-is, result-is, book-is}
+use Rattle.protocol.proofs.Invariant.{holds-reference, referenceBefore, outcomeHere, good-before, good-after, cabinet-is, result-is, reference-is}
 
 module _ (n b : ℕ) (lent : List ℕ) (done : formatOutcome lent [] n b .answer .refusal ≡ 0) {calls : List Step} (c : CallIn calls)
     (budget : ℕ) (is : c .this .call ≡ Restart budget) where
   abbrev cabinet : Cabinet
-  cabinet = bookBefore n b lent done c .cabinet
+  cabinet = referenceBefore n b lent done c .cabinet
 
   abbrev outcome : Outcome
   outcome = outcomeHere n b lent done c
@@ -36,15 +36,15 @@ module _ (n b : ℕ) (lent : List ℕ) (done : formatOutcome lent [] n b .answer
 
   abbrev Right : Outcome → Type 0
   Right o = o .answer .refusal ≡ 0 → (g : ℕ) × (o .answer .state .power ≡ Running g)
-      × ((d k : ℕ) → has g d ≡ true → k < b → block b (o .area) d k ≡ book n b c k)
+      × ((d k : ℕ) → has g d ≡ true → k < b → block b (o .area) d k ≡ reference n b c k)
 
   right-here : Right outcome
-  unfolding noted
+  unfolding recorded
   right-here z =
       let h = good-before n b lent done c in
       let (g, p) = finished _ cabinet (h .safe) (h .proper) (c .this .output) budget (rw restart-is at z) in
       let runs : outcome .answer .state .power ≡ Running g = ap (λ o. o .answer .state .power) restart-is ∙ p in
-      (g, runs, λ d k m l. holds-book (good-after n b lent done c) g runs d k m l ∙ ap (λ z. z k) (book-is n b lent done c))
+      (g, runs, λ d k m l. holds-reference (good-after n b lent done c) g runs d k m l ∙ ap (λ z. z k) (reference-is n b lent done c))
 
   abbrev Finds : Cabinet → Outcome → Type 0
   Finds v o = v .state .power ≡ Stopped → v .state .online ≡ all n

@@ -28,7 +28,7 @@ use Rattle.protocol.specs.Outcomes.{refusedOr}
 use Rattle.protocol.specs.Calls.{formatRefusals, formatted, zeroArea, zeroState, formatOutcome}
 use Rattle.protocol.specs.History.{cabinetOf}
 use Rattle.protocol.specs.Claims.{FormatDone}
-use Rattle.protocol.specs.Book.{zeroContents, opened}
+use Rattle.protocol.specs.Reference.{zeroContents, started}
 use Rattle.protocol.proofs.Soundness.{not-outside}
 use Rattle.protocol.proofs.Turns.{filled-up}
 use Rattle.protocol.proofs.Areas.{zero-block}
@@ -83,11 +83,11 @@ module _ (n b : ℕ) where
       go (yes l) q = fresh (is freshLabel (fresh-label (source x) l) q)
       go (no l) q = nothing (is blank (no-label (source x) (omega arith)) q)
 
--- ---- it runs with all disks, and all hold zeros, as the book does
+-- ---- it runs with all disks, and all hold zeros, as the reference does
 
-pub opened-safe : (n b : ℕ) → InRange n b → Safe zeroContents (opened n b .cabinet)
-unfolding opened formatted zeroArea
-opened-safe n b range = record {
+pub started-safe : (n b : ℕ) → InRange n b → Safe zeroContents (started n b .cabinet)
+unfolding started formatted zeroArea
+started-safe n b range = record {
   held = record {
     room = rw (fresh-slots n b (range .disks)) (range .disks);
     size = length-replicate {A = ℕ} (areaSize n b) 0;
@@ -116,10 +116,10 @@ unfolding formatOutcome refusedOr formatRefusals firstOf
 format-is-done area output n b range size =
     rw (not-outside n b range, le-ltb b 1 (range .some-block), le-ltb mostBlocks b (range .blocks), eq-eqb _ _ size)
 
--- a done fresh gives what the book begins with, whatever was in the area
+-- a done fresh gives what the reference begins with, whatever was in the area
 pub format-done : (n b : ℕ) (area output : List ℕ) → formatOutcome area output n b .answer .refusal ≡ 0
-    → InRange n b × (cabinetOf (formatOutcome area output n b) ≡ opened n b .cabinet)
-unfolding formatOutcome opened
+    → InRange n b × (cabinetOf (formatOutcome area output n b) ≡ started n b .cabinet)
+unfolding formatOutcome started
 format-done n b area output =
-    refused-or (formatRefusals n b area) zeroState area output _ (λ o. o .answer .refusal ≡ 0 → InRange n b × (cabinetOf o ≡ opened n b .cabinet))
+    refused-or (formatRefusals n b area) zeroState area output _ (λ o. o .answer .refusal ≡ 0 → InRange n b × (cabinetOf o ≡ started n b .cabinet))
     (λ ne e. absurd (ne e)) (λ z e. (format-passed n b area z, refl))

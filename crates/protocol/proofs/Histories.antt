@@ -1,4 +1,4 @@
--- Lists of calls, and the book beside them: what every call keeps holds after any list. Assumes nothing.
+-- Lists of calls, and the reference beside them: what every call keeps holds after any list. Assumes nothing.
 use mathlib.Core.Path.{_≡_, refl}
 use mathlib.Core.List.{List, [], _∷_, _++_}
 use mathlib.Core.Bool.{Bool}
@@ -10,7 +10,7 @@ use Rattle.protocol.specs.Stores.{Store}
 use Rattle.protocol.specs.Outcomes.{Outcome, refusedOr, carryOut}
 use Rattle.protocol.specs.Calls.{readOutcome, writeOutcome, joinOutcome, cleanOutcome, restartOutcome, detachOutcome, attachOutcome, powerOffOutcome}
 use Rattle.protocol.specs.History.{Step, Cabinet, perform, ran}
-use Rattle.protocol.specs.Book.{Book, noted, kept}
+use Rattle.protocol.specs.Reference.{Reference, recorded, recordedAll}
 use Rattle.protocol.proofs.Passing.{refused-or, cut-or-whole}
 
 -- ---- calls leave n and b
@@ -38,19 +38,19 @@ same-size PowerOff bytes output c = unless-refused _ (c .state) (c .area) output
 -- ---- lists
 
 -- two in a row
-pub kept-append : (xs ys : List Step) (book : Book) → kept (xs ++ ys) book ≡ kept ys (kept xs book)
-unfolding kept
-kept-append [] ys book = refl
-kept-append (x ∷ xs) ys book = kept-append xs ys (noted x book)
+pub recorded-append : (xs ys : List Step) (ref : Reference) → recordedAll (xs ++ ys) ref ≡ recordedAll ys (recordedAll xs ref)
+unfolding recordedAll
+recorded-append [] ys ref = refl
+recorded-append (x ∷ xs) ys ref = recorded-append xs ys (recorded x ref)
 
--- the book's cabinet does what the program's does
-pub same-cabinet : (calls : List Step) (book : Book) → kept calls book .cabinet ≡ ran calls (book .cabinet)
-unfolding kept ran noted
-same-cabinet [] book = refl
-same-cabinet (x ∷ calls) book = same-cabinet calls (noted x book)
+-- the reference's cabinet does what the program's does
+pub same-cabinet : (calls : List Step) (ref : Reference) → recordedAll calls ref .cabinet ≡ ran calls (ref .cabinet)
+unfolding recordedAll ran recorded
+same-cabinet [] ref = refl
+same-cabinet (x ∷ calls) ref = same-cabinet calls (recorded x ref)
 
 -- what each call keeps holds after any list
-pub after-calls : (I : Book → Type 0) → ((x : Step) (book : Book) → I book → I (noted x book)) → (calls : List Step) (book : Book) → I book → I (kept calls book)
-unfolding kept
-after-calls I keep [] book h = h
-after-calls I keep (x ∷ calls) book h = after-calls I keep calls (noted x book) (keep x book h)
+pub after-calls : (I : Reference → Type 0) → ((x : Step) (ref : Reference) → I ref → I (recorded x ref)) → (calls : List Step) (ref : Reference) → I ref → I (recordedAll calls ref)
+unfolding recordedAll
+after-calls I keep [] ref h = h
+after-calls I keep (x ∷ calls) ref h = after-calls I keep calls (recorded x ref) (keep x ref h)

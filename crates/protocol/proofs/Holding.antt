@@ -1,4 +1,4 @@
--- What the disks of a running cabinet and of a stopped one hold, against the book's contents, and which single stores keep it. Assumes nothing.
+-- What the disks of a running cabinet and of a stopped one hold, against the reference contents, and which single stores keep it. Assumes nothing.
 use mathlib.Core.Path.{_≡_, refl, sym, _∙_}
 use mathlib.Core.Logic.{_≢_, _⊎_, inl, inr}
 use mathlib.Core.Bool.{true, not}
@@ -14,28 +14,28 @@ use Rattle.protocol.specs.Geometry.{blockSize, regionOf, areaSize, block
 use Rattle.protocol.specs.States.{blank, labelAt, isDirty, source}
 use Rattle.protocol.specs.Stores.{Disks, copy, withDirty, onArea, onLabel, apply}
 use Rattle.protocol.specs.Naming.{second, Backs}
-use Rattle.protocol.specs.Book.{Contents}
+use Rattle.protocol.specs.Reference.{Contents}
 use Rattle.protocol.proofs.Areas.{block-length, stored-size, stored-same, stored-other}
 use Rattle.protocol.proofs.Labels.{field-set}
 use Rattle.protocol.proofs.Backing.{committedAt, tentativeAt, Backed, Agreed, Recoverable, agreed-recoverable, source-has}
 
 module _ (n b : ℕ) (c : Contents) where
-  -- block k of disk d is the book's
+  -- block k of disk d is the reference block
   abbrev pub Right : Disks → ℕ → ℕ → Type 0
   Right w d k = block b (w .area) d k ≡ c k
 
-  -- disk d holds the book
+  -- disk d holds the reference contents
   abbrev pub Holds : Disks → ℕ → Type 0
   Holds w d = (k : ℕ) → k < b → Right w d k
 
-  -- running with g: the labels agree on it, and every member holds the book
+  -- running with g: the labels agree on it, and every member holds the reference contents
   pub record Steady (g : ℕ) (w : Disks) : Type 0 where
     pub room : n ≤ length (w .labels)
     pub size : length (w .area) ≡ areaSize n b
     pub agreed : Agreed n (w .labels) g
     pub holds : (d : ℕ) → has g d ≡ true → Holds w d
 
-  -- stopped: whichever set a restart may name, its source holds the book, and a member's block that is not the book's lies in a region that is dirty on that
+  -- stopped: whichever set a restart may name, its source holds the reference contents, and a member's block that is not the reference's lies in a region that is dirty on that
   -- member
   pub record Restartable (w : Disks) : Type 0 where
     pub room : n ≤ length (w .labels)
@@ -55,7 +55,7 @@ module _ (n b : ℕ) (c : Contents) where
     members = λ x p d m k l. inr (h .holds d (rw (h .agreed .only x p) at m) k l);
   }
 
-  -- ---- a block that is stored as the book has it
+  -- ---- a block that is stored as the reference has it
 
   module _ (w : Disks) (size : length (w .area) ≡ areaSize n b) (d k : ℕ) (hd : d < n) (hk : k < b)
       (bytes : List ℕ) (full : length bytes ≡ blockSize) (right : bytes ≡ c k) where

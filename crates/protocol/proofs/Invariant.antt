@@ -1,4 +1,4 @@
--- What holds of the program's cabinet and the book after any list of calls that a done fresh begins. Assumes nothing.
+-- What holds of the program's cabinet and the reference after any list of calls that a done fresh begins. Assumes nothing.
 use mathlib.Core.Path.{_≡_, refl, sym, ap, _∙_, subst}
 use mathlib.Core.Bool.{true}
 use mathlib.Core.List.{List, [], _∷_}
@@ -13,84 +13,84 @@ use Rattle.protocol.specs.Stores.{Disks}
 use Rattle.protocol.specs.Outcomes.{Outcome}
 use Rattle.protocol.specs.Calls.{formatted, formatOutcome}
 use Rattle.protocol.specs.History.{Step, outcomeOf, ran}
-use Rattle.protocol.specs.Book.{Contents, Book, opened, noted, kept}
-use Rattle.protocol.specs.Demand3.{CallIn, program, given, result, book}
+use Rattle.protocol.specs.Reference.{Contents, Reference, started, recorded, recordedAll}
+use Rattle.protocol.specs.Demand3.{CallIn, program, given, result, reference}
 use Rattle.protocol.specs.Claims.{Proper}
 use Rattle.protocol.proofs.Holding.{Steady}
 use Rattle.protocol.proofs.Safety.{Held, Safe, call-keeps}
-use Rattle.protocol.proofs.Formatting.{format-done, opened-safe}
-use Rattle.protocol.proofs.Histories.{same-size, kept-append, same-cabinet, after-calls}
+use Rattle.protocol.proofs.Formatting.{format-done, started-safe}
+use Rattle.protocol.proofs.Histories.{same-size, recorded-append, same-cabinet, after-calls}
 use Rattle.protocol.proofs.SoundCalls.{calls-keep, format-proper}
 
--- the cabinet beside the book holds the book's contents, is sound, and has its n and b
-pub record Good (n b : ℕ) (book : Book) : Type 0 where
-  pub safe : Safe (book .contents) (book .cabinet)
-  pub proper : Proper (book .cabinet .state)
-  pub disks : book .cabinet .state .disks ≡ n
-  pub blocks : book .cabinet .state .blocks ≡ b
+-- the cabinet beside the reference holds the reference contents, is sound, and has its n and b
+pub record Good (n b : ℕ) (ref : Reference) : Type 0 where
+  pub safe : Safe (ref .contents) (ref .cabinet)
+  pub proper : Proper (ref .cabinet .state)
+  pub disks : ref .cabinet .state .disks ≡ n
+  pub blocks : ref .cabinet .state .blocks ≡ b
 
-good-kept : (n b : ℕ) (x : Step) (book : Book) → Good n b book → Good n b (noted x book)
-unfolding noted
-good-kept n b x book h =
-    let (d, k) = same-size (x .call) (x .bytes) (x .output) (book .cabinet) in
+good-kept : (n b : ℕ) (x : Step) (ref : Reference) → Good n b ref → Good n b (recorded x ref)
+unfolding recorded
+good-kept n b x ref h =
+    let (d, k) = same-size (x .call) (x .bytes) (x .output) (ref .cabinet) in
     record {
-      safe = call-keeps (book .contents) (book .cabinet) (h .safe) (x .call) (x .bytes) (x .output);
-      proper = calls-keep x (book .cabinet) (h .proper);
+      safe = call-keeps (ref .contents) (ref .cabinet) (h .safe) (x .call) (x .bytes) (x .output);
+      proper = calls-keep x (ref .cabinet) (h .proper);
       disks = d ∙ h .disks;
       blocks = k ∙ h .blocks;
     }
 
--- while it runs, every member of its current set holds the book
+-- while it runs, every member of its current set holds the reference contents
 steady-at : {n b : ℕ} {c : Contents} {w : Disks} (g : ℕ) (p : Power) → p ≡ Running g → Held n b c w p → Steady n b c g w
 steady-at g Stopped e h = absurd (let z : _≡_ {A = ℕ} 0 1 = cc in omega arith)
 steady-at g (Running x) e h = rw (let z : x ≡ g = cc in z) at h
 
-pub holds-book : {n b : ℕ} {book : Book} → Good n b book → (g : ℕ) → book .cabinet .state .power ≡ Running g
-    → (d k : ℕ) → has g d ≡ true → k < b → block b (book .cabinet .area) d k ≡ book .contents k
-holds-book {b = b} {book} h g e d k m =
-    subst (λ z. k < z → block z (book .cabinet .area) d k ≡ book .contents k) (h .blocks)
-    (steady-at g (book .cabinet .state .power) e (h .safe .held) .holds d m k)
+pub holds-reference : {n b : ℕ} {ref : Reference} → Good n b ref → (g : ℕ) → ref .cabinet .state .power ≡ Running g
+    → (d k : ℕ) → has g d ≡ true → k < b → block b (ref .cabinet .area) d k ≡ ref .contents k
+holds-reference {b = b} {ref} h g e d k m =
+    subst (λ z. k < z → block z (ref .cabinet .area) d k ≡ ref .contents k) (h .blocks)
+    (steady-at g (ref .cabinet .state .power) e (h .safe .held) .holds d m k)
 
 module _ (n b : ℕ) (lent : List ℕ) (done : formatOutcome lent [] n b .answer .refusal ≡ 0) where
-  opened-good : Good n b (opened n b)
-  unfolding opened formatted
-  opened-good =
+  started-good : Good n b (started n b)
+  unfolding started formatted
+  started-good =
       let (range, e) = format-done n b lent [] done in
       record {
-        safe = opened-safe n b range;
+        safe = started-safe n b range;
         proper = subst (λ c. Proper (c .state)) e (format-proper lent [] n b done);
         disks = refl;
         blocks = refl;
       }
 
-  good : (calls : List Step) → Good n b (kept calls (opened n b))
-  good calls = after-calls (Good n b) (good-kept n b) calls (opened n b) opened-good
+  good : (calls : List Step) → Good n b (recordedAll calls (started n b))
+  good calls = after-calls (Good n b) (good-kept n b) calls (started n b) started-good
 
-  -- the program's cabinet is the book's, though neither is given anything of the other
-  program-is : (calls : List Step) → kept calls (opened n b) .cabinet ≡ program n b lent calls
-  program-is calls = same-cabinet calls (opened n b) ∙ ap (ran calls) (sym (format-done n b lent [] done .1))
+  -- the program's cabinet is the reference block, though neither is given anything of the other
+  program-is : (calls : List Step) → recordedAll calls (started n b) .cabinet ≡ program n b lent calls
+  program-is calls = same-cabinet calls (started n b) ∙ ap (ran calls) (sym (format-done n b lent [] done .1))
 
   -- ---- a call of the list
 
   module _ {calls : List Step} (c : CallIn calls) where
-    abbrev pub bookBefore : Book
-    bookBefore = kept (c .before) (opened n b)
+    abbrev pub referenceBefore : Reference
+    referenceBefore = recordedAll (c .before) (started n b)
 
     abbrev pub outcomeHere : Outcome
-    outcomeHere = outcomeOf (c .this) (bookBefore .cabinet)
+    outcomeHere = outcomeOf (c .this) (referenceBefore .cabinet)
 
-    pub good-before : Good n b bookBefore
+    pub good-before : Good n b referenceBefore
     good-before = good (c .before)
 
-    pub good-after : Good n b (noted (c .this) bookBefore)
-    good-after = good-kept n b (c .this) bookBefore good-before
+    pub good-after : Good n b (recorded (c .this) referenceBefore)
+    good-after = good-kept n b (c .this) referenceBefore good-before
 
-    pub cabinet-is : bookBefore .cabinet ≡ given n b lent c
+    pub cabinet-is : referenceBefore .cabinet ≡ given n b lent c
     cabinet-is = program-is (c .before)
 
     pub result-is : outcomeHere ≡ result n b lent c
     result-is = ap (outcomeOf (c .this)) cabinet-is
 
-    pub book-is : noted (c .this) bookBefore .contents ≡ book n b c
-    unfolding kept
-    book-is = ap (λ z. z .contents) (sym (kept-append (c .before) (c .this ∷ []) (opened n b)))
+    pub reference-is : recorded (c .this) referenceBefore .contents ≡ reference n b c
+    unfolding recordedAll
+    reference-is = ap (λ z. z .contents) (sym (recorded-append (c .before) (c .this ∷ []) (started n b)))

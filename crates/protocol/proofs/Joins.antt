@@ -15,7 +15,7 @@ use Rattle.sets.proofs.LowestMember.{non-empty}
 use Rattle.protocol.specs.States.{source}
 use Rattle.protocol.specs.Stores.{Disks, copy, applyAll}
 use Rattle.protocol.specs.Lists.{move, moveToLive, fill}
-use Rattle.protocol.specs.Book.{Contents}
+use Rattle.protocol.specs.Reference.{Contents}
 use Rattle.protocol.proofs.ListStores.{each-fill}
 use Rattle.protocol.proofs.Runs.{apply-append, Along, along-append, Keeps, keeps-along, made-all}
 use Rattle.protocol.proofs.Backing.{source-has}

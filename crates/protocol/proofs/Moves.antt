@@ -14,7 +14,7 @@ use Rattle.protocol.specs.Geometry.{areaSize}
 use Rattle.protocol.specs.States.{labelAt, source}
 use Rattle.protocol.specs.Stores.{Disks, propose, commit, withCommitted, apply, applyAll}
 use Rattle.protocol.specs.Lists.{proposals, commits, move, moveToLive}
-use Rattle.protocol.specs.Book.{Contents}
+use Rattle.protocol.specs.Reference.{Contents}
 use Rattle.protocol.proofs.ListStores.{each-proposal, each-commit}
 use Rattle.protocol.proofs.Runs.{apply-append, Along, along-append, along-nil, Keeps, keeps, keeps-along}
 use Rattle.protocol.proofs.Labels.{field-set, proposed, committed}
@@ -25,7 +25,7 @@ use Rattle.protocol.proofs.Holding.{Holds, Steady, Restartable, steady-
 module _ (n b : ℕ) (c : Contents) where
   -- ---- commits: the end of a move, and of a restart
 
-  -- s is what a restart may name, and all its members hold the book
+  -- s is what a restart may name, and all its members hold the reference contents
   pub record Committing (s : ℕ) (w : Disks) : Type 0 where
     pub restartable : Restartable n b c w
     pub backed : Backed (w .labels) s

@@ -16,7 +16,7 @@ use Rattle.protocol.specs.declared.State.{State}
 use Rattle.protocol.specs.Loops.{ascending, every, some}
 use Rattle.protocol.specs.States.{labelAt}
 use Rattle.protocol.specs.Soundness.{Sound}
-use Rattle.protocol.specs.Naming.{Stage, first, second, third, Found, none, one, several, Backs, Proposes, Candidate, Exactly, no-set, one-set, several-sets, Decides, here, further, nowhere, stages, Names, backs, proposes, candidate, candidates, count, orElse, decide, named, NamedAsDefined}
+use Rattle.protocol.specs.Naming.{Stage, first, second, third, Found, none, one, several, Backs, Proposes, Candidate, Exactly, no-set, one-set, several-sets, Decides, here, further, nowhere, stages, Names, backs, proposes, candidate, candidates, count, orLater, decide, named, NamedAsDefined}
 use Rattle.protocol.specs.Calls.{foundBy}
 use Rattle.protocol.proofs.Loops.{every-at, every-of, some-member, some-is}
 
@@ -153,12 +153,12 @@ several-not-none e = absurd (let z : _≡_ {A = ℕ} 0 1 = cc in omega arith)
 -- what finds exactly the candidates of each stage gives the answer of these stages ..
 module _ (online : ℕ) (labels : List Label) (found : Stage → Found) (right : (stage : Stage) → Exactly (Candidate stage online labels) (found stage)) where
   pub decided : (stages : List Stage) → Decides online labels stages (decide found stages)
-  unfolding decide orElse
+  unfolding decide orLater
   decided [] = nowhere
   decided (stage ∷ later) = go (found stage) (right stage) (decided later)
     where
       go : (f : Found) → Exactly (Candidate stage online labels) f → Decides online labels later (decide found later)
-          → Decides online labels (stage ∷ later) (orElse f (decide found later))
+          → Decides online labels (stage ∷ later) (orLater f (decide found later))
       go none e ih = further e ih
       go (one x) e ih = here (one-not-none x) e
       go several e ih = here several-not-none e

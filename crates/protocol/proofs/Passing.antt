@@ -4,11 +4,10 @@ use mathlib.Core.Logic.{_≢_, _⊎_, inl, inr}
 use mathlib.Core.Bool.{Bool, false, not, cond}
 use mathlib.Core.List.{List}
 use Prim.Native.Nat.{ℕ, _≤_, _<_}
-use native.Mathlib.Omega.{arith}
 use lib.Dec.{eqb, ltb}
 use lib.ListN.{length}
-use borrow.Author.Tests.{eqb-true, eqb-false, eq-eqb, ne-eqb, ltb-true, ltb-false, not-false}
-use Rattle.sets.proofs.Tests.{Test, passes, fails, test, clash, same-or-not}
+use borrow.Author.Tests.{eqb-true, eq-eqb, ne-eqb, ltb-true, ltb-false, not-false}
+use Rattle.sets.proofs.Tests.{Test, passes, fails, test, clash, same-or-not, positive}
 use Rattle.label.specs.Refusals.{firstOf}
 use Rattle.label.proofs.Order.{none-at}
 use Rattle.protocol.specs.declared.Power.{Power}
@@ -67,13 +66,6 @@ stops-if (Running g) e = clash refl e
 
 sound-if : (s : State) → not (sound s) ≡ false → Sound s
 sound-if s e = test-agrees s .0 (not-false _ e)
-
-positive : (m : ℕ) → eqb m 0 ≡ false → 0 < m
-positive m e = go (same-or-not m 0)
-  where
-    go : (m ≡ 0) ⊎ (m ≢ 0) → 0 < m
-    go (inl q) = absurd (eqb-false m 0 e q)
-    go (inr q) = omega arith
 
 pub record BlockPassed (s : State) (area : List ℕ) (k : ℕ) (bytes : List ℕ) : Type 0 where
   pub fit : Sound s

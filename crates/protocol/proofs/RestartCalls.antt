@@ -19,7 +19,7 @@ use Rattle.protocol.specs.Naming.{Found, none, one, several, Names}
 use Rattle.protocol.specs.Outcomes.{Outcome, disksOf, refusedOr, carryOut}
 use Rattle.protocol.specs.Calls.{isSeveral, theSet, foundBy, restartRefusals, restartOutcome}
 use Rattle.protocol.specs.History.{Cabinet}
-use Rattle.protocol.specs.Book.{Contents}
+use Rattle.protocol.specs.Reference.{Contents}
 use Rattle.protocol.specs.Claims.{Proper}
 use Rattle.protocol.proofs.Soundness.{test-agrees}
 use Rattle.protocol.proofs.Refusals.{not-given}

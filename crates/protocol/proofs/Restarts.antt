@@ -17,7 +17,7 @@ use Rattle.protocol.specs.Loops.{forEach, some}
 use Rattle.protocol.specs.States.{labelAt, isDirty, source}
 use Rattle.protocol.specs.Stores.{Disks, Store, copy, clear, apply, applyAll}
 use Rattle.protocol.specs.Lists.{commits, forBlocks, copies, clears, mend, mends}
-use Rattle.protocol.specs.Book.{Contents}
+use Rattle.protocol.specs.Reference.{Contents}
 use Rattle.protocol.proofs.Loops.{some-not, Each, nil, cons, each-if, each-member}
 use Rattle.protocol.proofs.ListStores.{each-copy, each-clear}
 use Rattle.protocol.proofs.Runs.{apply-append, Along, along-append, along-nil, Keeps, keeps, keeps-along, loop, loop-along, made-all, made-members}
@@ -35,7 +35,7 @@ module _ (n b : ℕ) (c : Contents) (s : ℕ) (labels : List Label) where
     cleaner : (e q : ℕ) → isDirty (w .labels) e q ≡ true → isDirty labels e q ≡ true
     right : (d : ℕ) → has s d ≡ true → (k : ℕ) → k < b → regionOf k < r → Right n b c w d k
 
-  -- ---- copies: each stores what the source has, which is the book's block
+  -- ---- copies: each stores what the source has, which is the reference block
 
   module _ {r : ℕ} {w : Disks} (h : Mended r w) where
     below : (d : ℕ) → has s d ≡ true → d < n

@@ -1,4 +1,4 @@
--- What a cabinet holds against the book between calls, and that each call keeps it: one lemma a call. Assumes nothing.
+-- What a cabinet holds against the reference between calls, and that each call keeps it: one lemma a call. Assumes nothing.
 use mathlib.Core.Path.{_≡_, refl, sym, _∙_}
 use mathlib.Core.Logic.{_≢_}
 use mathlib.Core.Bool.{true}
@@ -22,7 +22,7 @@ use Rattle.protocol.specs.Naming.{Found, none, one, several, Names}
 use Rattle.protocol.specs.Outcomes.{Outcome, withDisks, disksOf, carryOut}
 use Rattle.protocol.specs.Calls.{theSet, foundBy, blockRefusals, joinRefusals, cleanRefusals, restartRefusals, readOutcome, writeOutcome, joinOutcome, cleanOutcome, restartOutcome, detachOutcome, attachOutcome, powerOffOutcome}
 use Rattle.protocol.specs.History.{Cabinet, perform, cabinetOf}
-use Rattle.protocol.specs.Book.{Contents, counts, carriedBy, entered}
+use Rattle.protocol.specs.Reference.{Contents, counts, carriedBy, afterWrites}
 use Rattle.protocol.proofs.Runs.{Along}
 use Rattle.protocol.proofs.Naming.{found-names}
 use Rattle.protocol.proofs.Backing.{found-backed}
@@ -73,8 +73,8 @@ module _ (c : Contents) (s : State) (area output : List ℕ) where
   inside g d m = and-parts (has g d) (has (s .online) d) (sym (has-intersection g (s .online) d) ∙ m) .0
 
   write-safe : (k budget : ℕ) (bytes : List ℕ) (p : Power) → Held (s .disks) (s .blocks) c w p → firstOf (blockRefusals (withPower p) area k bytes) ≡ 0
-      → SafeAfter (entered (carriedBy (Write k budget) bytes (record { state = withPower p; area = area })) c) (carryOut (writeList (withPower p) k bytes) budget (live (withPower p)) (withPower p) area output)
-  unfolding writeList carriedBy entered counts
+      → SafeAfter (afterWrites (carriedBy (Write k budget) bytes (record { state = withPower p; area = area })) c) (carryOut (writeList (withPower p) k bytes) budget (live (withPower p)) (withPower p) area output)
+  unfolding writeList carriedBy afterWrites counts
   write-safe k budget bytes Stopped h e = absurd (block-passed (withPower Stopped) area k bytes e .power)
   write-safe k budget bytes (Running g) h e =
       let pass = block-passed (withPower (Running g)) area k bytes e in
@@ -136,14 +136,14 @@ module _ (c : Contents) (cabinet : Cabinet) (h : Safe c cabinet) (output : List 
   unfolding readOutcome
   read-keeps k = refused-or _ s area output _ (SafeAfter c) (λ ne. h) (λ e. h)
 
-  write-keeps : (k budget : ℕ) (bytes : List ℕ) → SafeAfter (entered (carriedBy (Write k budget) bytes cabinet) c) (writeOutcome s area output k bytes budget)
+  write-keeps : (k budget : ℕ) (bytes : List ℕ) → SafeAfter (afterWrites (carriedBy (Write k budget) bytes cabinet) c) (writeOutcome s area output k bytes budget)
   unfolding writeOutcome
   write-keeps k budget bytes =
-      refused-or _ s area output _ (SafeAfter (entered (carriedBy (Write k budget) bytes cabinet) c))
+      refused-or _ s area output _ (SafeAfter (afterWrites (carriedBy (Write k budget) bytes cabinet) c))
       (λ ne. rw (uncarried ne) h) (write-safe c s area output k budget bytes (s .power) (h .held))
     where
-      uncarried : firstOf (blockRefusals s area k bytes) ≢ 0 → entered (carriedBy (Write k budget) bytes cabinet) c ≡ c
-      uncarried ne = unfold carriedBy entered in rw (ne-eqb _ 0 ne)
+      uncarried : firstOf (blockRefusals s area k bytes) ≢ 0 → afterWrites (carriedBy (Write k budget) bytes cabinet) c ≡ c
+      uncarried ne = unfold carriedBy afterWrites in rw (ne-eqb _ 0 ne)
 
   join-keeps : (d budget : ℕ) → SafeAfter c (joinOutcome s area output d budget)
   unfolding joinOutcome
@@ -170,8 +170,8 @@ module _ (c : Contents) (cabinet : Cabinet) (h : Safe c cabinet) (output : List 
   power-off-keeps = refused-or _ s area output _ (SafeAfter c) (λ ne. h) (λ e. record { held = held-stops (s .disks) (s .blocks) c (disksOf s area) (s .power) (h .held) })
 
 pub call-keeps : (c : Contents) (cabinet : Cabinet) → Safe c cabinet → (call : Call) (bytes output : List ℕ)
-    → SafeAfter (entered (carriedBy call bytes cabinet) c) (perform call bytes output cabinet)
-unfolding perform carriedBy entered
+    → SafeAfter (afterWrites (carriedBy call bytes cabinet) c) (perform call bytes output cabinet)
+unfolding perform carriedBy afterWrites
 call-keeps c cabinet h (Read k) bytes output = read-keeps c cabinet h output k
 call-keeps c cabinet h (Write k budget) bytes output = write-keeps c cabinet h output k budget bytes
 call-keeps c cabinet h (Join d budget) bytes output = join-keeps c cabinet h output d budget

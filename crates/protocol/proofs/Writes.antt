@@ -1,4 +1,4 @@
--- A write, cut anywhere, leaves disks that a restart can take up: with the old contents of the book until the store on the source of its set, with the new
+-- A write, cut anywhere, leaves disks that a restart can take up: with the old reference contents until the store on the source of its set, with the new
 -- ones from then on. Whole, it leaves disks that run with the new contents. Assumes nothing.
 use mathlib.Core.Path.{_≡_, refl, _∙_, subst}
 use mathlib.Core.Logic.{_≢_, _⊎_, inl, inr}
@@ -17,7 +17,7 @@ use Rattle.protocol.specs.Loops.{forEach}
 use Rattle.protocol.specs.States.{isDirty, source}
 use Rattle.protocol.specs.Stores.{Disks, Store, write, mark, apply, applyAll}
 use Rattle.protocol.specs.Lists.{moveToLive, marks, preparations, blockStores}
-use Rattle.protocol.specs.Book.{Contents, replaced, include}
+use Rattle.protocol.specs.Reference.{Contents, replaced, include}
 use Rattle.protocol.proofs.Loops.{Each, cons}
 use Rattle.protocol.proofs.ListStores.{each-mark, each-block}
 use Rattle.protocol.proofs.Runs.{Cut, in-first, in-second, cut, apply-append, Along, along-append, Keeps, keeps-along, made-all, made-members}
@@ -201,7 +201,7 @@ module _ (n b : ℕ) (c : Contents) (g l : ℕ) (w : Disks) (h : Steady n b c g 
   unfolding preparations
   prepare-done = rw apply-append (marks-done n b c l (w .labels) (regionOf k) moved (live-done n b c g l w h filled inside) still-dirty)
 
-  -- what the book holds after these stores
+  -- what the reference holds after these stores
   abbrev pub after : List Store → Contents
   after made = cond (include (source l) k made) (replaced k bytes c) c
 

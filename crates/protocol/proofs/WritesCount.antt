@@ -17,8 +17,8 @@ use Rattle.protocol.specs.Lists.{preparations, blockStores, writeList}
 use Rattle.protocol.specs.Outcomes.{Outcome}
 use Rattle.protocol.specs.Calls.{blockRefusals, writeOutcome}
 use Rattle.protocol.specs.History.{Cabinet}
-use Rattle.protocol.specs.Book.{Contents, replaced, include, counts, carriedBy, entered}
-use Rattle.protocol.specs.Claims.{refusalOf, enters, WritesCount}
+use Rattle.protocol.specs.Reference.{Contents, replaced, include, counts, carriedBy, afterWrites}
+use Rattle.protocol.specs.Claims.{refusalOf, contentsLeft, WritesCount}
 use Rattle.protocol.proofs.Passing.{refused-or, cut-or-whole, block-passed}
 use Rattle.protocol.proofs.Counting.{early}
 use Rattle.protocol.proofs.Writes.{write-counts}
@@ -31,12 +31,12 @@ module _ (c : Cabinet) (k budget : ℕ) (bytes output : List ℕ) (contents : Co
   list = writeList (c .state) k bytes
 
   -- what is carried out is entered if its stores include the source's, and nothing is where the write is refused
-  carried-out : refusal ≡ 0 → enters c k budget bytes output contents ≡ cond (include (source (live (c .state))) k (take budget list)) (replaced k bytes contents) contents
-  unfolding carriedBy entered counts
+  carried-out : refusal ≡ 0 → contentsLeft c k budget bytes output contents ≡ cond (include (source (live (c .state))) k (take budget list)) (replaced k bytes contents) contents
+  unfolding carriedBy afterWrites counts
   carried-out e = rw (eq-eqb _ 0 e)
 
-  not-carried-out : refusal ≢ 0 → enters c k budget bytes output contents ≡ contents
-  unfolding carriedBy entered
+  not-carried-out : refusal ≢ 0 → contentsLeft c k budget bytes output contents ≡ contents
+  unfolding carriedBy afterWrites
   not-carried-out ne = rw (ne-eqb _ 0 ne)
 
   -- a write that gives 0 passed its refusals, and made its whole list; one that gives another number than 15 did not pass them
@@ -58,7 +58,7 @@ module _ (c : Cabinet) (k budget : ℕ) (bytes output : List ℕ) (contents : Co
       Refused : Outcome → Type 0
       Refused o = o .answer .refusal ≢ 0 → o .answer .refusal ≢ 15 → refusal ≢ 0
 
-  acknowledged : refusalOf c k budget bytes output ≡ 0 → enters c k budget bytes output contents ≡ replaced k bytes contents
+  acknowledged : refusalOf c k budget bytes output ≡ 0 → contentsLeft c k budget bytes output contents ≡ replaced k bytes contents
   unfolding writeList
   acknowledged z =
       let (e, l) = done z in
@@ -68,14 +68,14 @@ module _ (c : Cabinet) (k budget : ℕ) (bytes output : List ℕ) (contents : Co
       carried-out e ∙ rw (take-all budget _ l, write-counts (s .disks) (live s) k bytes (s .labels) (currentOf (s .power)) (pass .some) known)
 
   cut-early : budget ≤ length (preparations (c .state .disks) (c .state .labels) (currentOf (c .state .power)) (live (c .state)) k)
-      → enters c k budget bytes output contents ≡ contents
+      → contentsLeft c k budget bytes output contents ≡ contents
   unfolding writeList
   cut-early l = go (same-or-not refusal 0)
     where
       before : List Store
       before = preparations (c .state .disks) (c .state .labels) (currentOf (c .state .power)) (live (c .state)) k
 
-      go : (refusal ≡ 0) ⊎ (refusal ≢ 0) → enters c k budget bytes output contents ≡ contents
+      go : (refusal ≡ 0) ⊎ (refusal ≢ 0) → contentsLeft c k budget bytes output contents ≡ contents
       go (inl e) =
           carried-out e
           ∙ rw (take-append-le budget before (blockStores (c .state .disks) (live (c .state)) k bytes) l, early (c .state .disks) (c .state .labels) (currentOf (c .state .power)) (live (c .state)) k (source (live (c .state))) k budget)

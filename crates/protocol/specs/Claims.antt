@@ -14,8 +14,8 @@ use Rattle.protocol.specs.Lists.{preparations, writeList}
 use Rattle.protocol.specs.Calls.{formatOutcome, writeOutcome}
 use Rattle.protocol.specs.Saving.{saveOutcome, assembleAnswer}
 use Rattle.protocol.specs.History.{Step, Cabinet, outcomeOf}
-use Rattle.protocol.specs.Book.{Contents, replaced, carriedBy, entered}
-use Rattle.protocol.specs.Demand3.{CallIn, result, book}
+use Rattle.protocol.specs.Reference.{Contents, replaced, carriedBy, afterWrites}
+use Rattle.protocol.specs.Demand3.{CallIn, result, reference}
 
 -- ---- fresh
 
@@ -46,27 +46,27 @@ pub record SoundnessKept : Type 0 where
 abbrev pub WriteBound : Type 0
 WriteBound = (s : State) (k : ℕ) (bytes : List ℕ) → Sound s → length (writeList s k bytes) ≤ 4 * size (live s)
 
--- "So a write that gives 0 counts, and one cut before that store or otherwise refused does not": what a write leaves of any contents of the book.
+-- "So a write that gives 0 counts, and one cut before that store or otherwise refused does not": what a write leaves of any reference contents.
 module _ (c : Cabinet) (k budget : ℕ) (bytes output : List ℕ) where
   abbrev pub refusalOf : ℕ
   refusalOf = writeOutcome (c .state) (c .area) output k bytes budget .answer .refusal
 
-  abbrev pub enters : Contents → Contents
-  enters contents = entered (carriedBy (Write k budget) bytes c) contents
+  abbrev pub contentsLeft : Contents → Contents
+  contentsLeft contents = afterWrites (carriedBy (Write k budget) bytes c) contents
 
   pub record Counting (contents : Contents) : Type 0 where
-    pub acknowledged : refusalOf ≡ 0 → enters contents ≡ replaced k bytes contents
-    pub refused : refusalOf ≢ 0 → refusalOf ≢ 15 → enters contents ≡ contents
+    pub acknowledged : refusalOf ≡ 0 → contentsLeft contents ≡ replaced k bytes contents
+    pub refused : refusalOf ≢ 0 → refusalOf ≢ 15 → contentsLeft contents ≡ contents
     pub cut-early : budget ≤ length (preparations (c .state .disks) (c .state .labels) (currentOf (c .state .power)) (live (c .state)) k)
-        → enters contents ≡ contents
+        → contentsLeft contents ≡ contents
 
 abbrev pub WritesCount : Type 0
 WritesCount = (c : Cabinet) (k budget : ℕ) (bytes output : List ℕ) (contents : Contents) → Counting c k budget bytes output contents
 
 -- ---- reads
 
--- What the gate relies on: a read that gives 0 yields the book's block.
+-- What the gate relies on: a read that gives 0 yields the reference block, the paper's book's.
 abbrev pub ReadsRight : Type 0
 ReadsRight = (n b : ℕ) (lent : List ℕ) → formatOutcome lent [] n b .answer .refusal ≡ 0
     → (calls : List Step) (c : CallIn calls) (k : ℕ) → c .this .call ≡ Read k
-    → result n b lent c .answer .refusal ≡ 0 → result n b lent c .output ≡ book n b c k
+    → result n b lent c .answer .refusal ≡ 0 → result n b lent c .output ≡ reference n b c k

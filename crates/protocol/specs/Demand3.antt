@@ -14,7 +14,7 @@ use Rattle.protocol.specs.Naming.{one}
 use Rattle.protocol.specs.Outcomes.{Outcome}
 use Rattle.protocol.specs.Calls.{formatOutcome, foundBy}
 use Rattle.protocol.specs.History.{Step, Cabinet, outcomeOf, cabinetOf, ran}
-use Rattle.protocol.specs.Book.{contentsAfter}
+use Rattle.protocol.specs.Reference.{contentsAfter}
 
 -- A call in a list: those before it, and itself.
 pub record CallIn (calls : List Step) : Type 0 where
@@ -34,9 +34,9 @@ given n b lent c = program n b lent (c .before)
 abbrev pub result : (n b : ℕ) (lent : List ℕ) {calls : List Step} → CallIn calls → Outcome
 result n b lent c = outcomeOf (c .this) (given n b lent c)
 
--- what the book holds after it
-abbrev pub book : (n b : ℕ) {calls : List Step} → CallIn calls → ℕ → List ℕ
-book n b c = contentsAfter n b (c .before ++ (c .this ∷ []))
+-- what the book, the reference contents, has after it
+abbrev pub reference : (n b : ℕ) {calls : List Step} → CallIn calls → ℕ → List ℕ
+reference n b c = contentsAfter n b (c .before ++ (c .this ∷ []))
 
 pub record Demand3 (n b : ℕ) (lent : List ℕ) (calls : List Step) : Type 0 where
   -- "No restart in the list gives 14."
@@ -45,7 +45,7 @@ pub record Demand3 (n b : ℕ) (lent : List ℕ) (calls : List Step) : Type 0 wh
   -- b, block k of d in the disk area equals block k of the book."
   pub right : (c : CallIn calls) (budget : ℕ) → c .this .call ≡ Restart budget → result n b lent c .answer .refusal ≡ 0
       → (g : ℕ) × (result n b lent c .answer .state .power ≡ Running g)
-      × ((d k : ℕ) → has g d ≡ true → k < b → block b (result n b lent c .area) d k ≡ book n b c k)
+      × ((d k : ℕ) → has g d ≡ true → k < b → block b (result n b lent c .area) d k ≡ reference n b c k)
   -- "Each one of a stopped cabinet with all n disks in R finds a set, and gives 0 when its supply is at least the length of its list of stores."
   pub finds : (c : CallIn calls) (budget : ℕ) → c .this .call ≡ Restart budget
       → given n b lent c .state .power ≡ Stopped → given n b lent c .state .online ≡ all n

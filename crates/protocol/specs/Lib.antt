@@ -11,7 +11,7 @@ pub mod Outcomes
 pub mod Calls
 pub mod Saving
 pub mod History
-pub mod Book
+pub mod Reference
 pub mod Demand3
 pub mod Claims
 pub mod ByHand

@@ -92,15 +92,15 @@ count [] = none
 count (x ∷ []) = one x
 count (x ∷ y ∷ more) = several
 
-unfoldable pub orElse : Found → Found → Found
-orElse none later = later
-orElse (one x) later = one x
-orElse several later = several
+unfoldable pub orLater : Found → Found → Found
+orLater none later = later
+orLater (one x) later = one x
+orLater several later = several
 
 -- the first of these stages in which something is found decides
 unfoldable pub decide : (Stage → Found) → List Stage → Found
 decide found [] = none
-decide found (stage ∷ later) = orElse (found stage) (decide found later)
+decide found (stage ∷ later) = orLater (found stage) (decide found later)
 
 unfoldable pub named : ℕ → ℕ → List Label → Found
 named n online labels = decide (λ stage. count (candidates stage n online labels)) stages

@@ -2,8 +2,10 @@
 use mathlib.Core.Path.{_≡_, refl, sym}
 use mathlib.Core.Logic.{_≢_, _⊎_, inl, inr}
 use mathlib.Core.Bool.{Bool, true, false, not, _&&_, _||_, false≢true}
-use Prim.Native.Nat.{ℕ}
+use Prim.Native.Nat.{ℕ, zero, suc, _<_}
 use native.Mathlib.Decide.{ℕ-discrete}
+use native.Mathlib.Omega.{arith}
+use lib.Dec.{eqb}
 
 -- how a test came out
 pub data Test (b : Bool) : Type 0 where
@@ -47,3 +49,7 @@ implies false b h e = clash e refl
 -- cases on two numbers
 pub same-or-not : (m n : ℕ) → (m ≡ n) ⊎ (m ≢ n)
 same-or-not m n = elim (ℕ-discrete m n) [ yes p ↦ inl p | no q ↦ inr q ]
+
+pub positive : (m : ℕ) → eqb m 0 ≡ false → 0 < m
+positive zero e = absurd (false≢true (sym e))
+positive (suc m) e = omega arith

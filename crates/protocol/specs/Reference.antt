@@ -1,4 +1,5 @@
--- Document 01, "The list and the book": the right block for each number, from n, b and the list of calls alone.
+-- Document 01, "The list and the book": the reference contents, which are the paper's book: the right block for each number, from n, b and the list of
+-- calls alone.
 use mathlib.Core.Bool.{Bool, false, cond, _&&_, _||_}
 use mathlib.Core.List.{List, [], _∷_}
 use Prim.Native.Nat.{ℕ}
@@ -55,7 +56,7 @@ carriedBy (Detach d) bytes c = []
 carriedBy (Attach d) bytes c = []
 carriedBy PowerOff bytes c = []
 
--- ---- the book
+-- ---- the reference contents
 
 -- "a block for each k"
 abbrev pub Contents : Type 0
@@ -69,30 +70,30 @@ abbrev pub replaced : ℕ → List ℕ → Contents → Contents
 replaced k bytes contents j = cond (eqb j k) bytes (contents j)
 
 -- "then block k of the book becomes its data"
-unfoldable pub entered : List CarriedWrite → Contents → Contents
-entered [] contents = contents
-entered (w ∷ later) contents = entered later (cond (counts w) (replaced (w .block) (w .bytes) contents) contents)
+unfoldable pub afterWrites : List CarriedWrite → Contents → Contents
+afterWrites [] contents = contents
+afterWrites (w ∷ later) contents = afterWrites later (cond (counts w) (replaced (w .block) (w .bytes) contents) contents)
 
--- "Beside it stands a cabinet of this paper": the book's own, which is given the calls of the list and nothing of the program's.
-pub record Book : Type 0 where
+-- The book: "Beside it stands a cabinet of this paper", its own, which is given the calls of the list and nothing of the program's.
+pub record Reference : Type 0 where
   pub cabinet : Cabinet
   pub contents : Contents
 
 -- "begun as fresh gives it"
-unfoldable pub opened : ℕ → ℕ → Book
-opened n b = record { cabinet = record { state = formatted n b; area = zeroArea n b }; contents = zeroContents }
+unfoldable pub started : ℕ → ℕ → Reference
+started n b = record { cabinet = record { state = formatted n b; area = zeroArea n b }; contents = zeroContents }
 
 -- one call
-unfoldable pub noted : Step → Book → Book
-noted x book = record {
-  cabinet = cabinetOf (outcomeOf x (book .cabinet));
-  contents = entered (carriedBy (x .call) (x .bytes) (book .cabinet)) (book .contents);
+unfoldable pub recorded : Step → Reference → Reference
+recorded x ref = record {
+  cabinet = cabinetOf (outcomeOf x (ref .cabinet));
+  contents = afterWrites (carriedBy (x .call) (x .bytes) (ref .cabinet)) (ref .contents);
 }
 
-unfoldable pub kept : List Step → Book → Book
-kept [] book = book
-kept (x ∷ later) book = kept later (noted x book)
+unfoldable pub recordedAll : List Step → Reference → Reference
+recordedAll [] ref = ref
+recordedAll (x ∷ later) ref = recordedAll later (recorded x ref)
 
--- what the book holds after these calls
+-- what the book has after these calls
 abbrev pub contentsAfter : ℕ → ℕ → List Step → Contents
-contentsAfter n b calls = kept calls (opened n b) .contents
+contentsAfter n b calls = recordedAll calls (started n b) .contents
