@@ -35,8 +35,8 @@ module _ (n b : ℕ) (c : Contents) where
     pub agreed : Agreed n (w .labels) g
     pub holds : (d : ℕ) → has g d ≡ true → Holds w d
 
-  -- stopped: whichever set a restart may name, its source holds the reference contents, and a member's block that is not the reference's lies in a region that is dirty on that
-  -- member
+  -- stopped: whichever set a restart may name, its source holds the reference contents, and a member's block that differs from them lies in a region
+  -- that is dirty on that member
   pub record Restartable (w : Disks) : Type 0 where
     pub room : n ≤ length (w .labels)
     pub size : length (w .area) ≡ areaSize n b

@@ -22,7 +22,7 @@ use Rattle.protocol.proofs.Formatting.{format-done, started-safe}
 use Rattle.protocol.proofs.Histories.{same-size, recorded-append, same-cabinet, after-calls}
 use Rattle.protocol.proofs.SoundCalls.{calls-keep, format-proper}
 
--- the cabinet beside the reference holds the reference contents, is sound, and has its n and b
+-- the reference's cabinet holds the reference contents, is sound, and has its n and b
 pub record Good (n b : ℕ) (ref : Reference) : Type 0 where
   pub safe : Safe (ref .contents) (ref .cabinet)
   pub proper : Proper (ref .cabinet .state)
@@ -66,7 +66,7 @@ module _ (n b : ℕ) (lent : List ℕ) (done : formatOutcome lent [] n b .answer
   good : (calls : List Step) → Good n b (recordedAll calls (started n b))
   good calls = after-calls (Good n b) (good-kept n b) calls (started n b) started-good
 
-  -- the program's cabinet is the reference block, though neither is given anything of the other
+  -- the program's cabinet is the reference's, though neither is given anything of the other
   program-is : (calls : List Step) → recordedAll calls (started n b) .cabinet ≡ program n b lent calls
   program-is calls = same-cabinet calls (started n b) ∙ ap (ran calls) (sym (format-done n b lent [] done .1))
 

@@ -15,7 +15,7 @@ pub mod Refusals
 pub mod Passing
 pub mod Naming
 pub mod Finder
--- what the labels of a cabinet back, and what its disks hold against the reference
+-- what the labels of a cabinet back, and what its disks hold against the reference contents
 pub mod Backing
 pub mod Moving
 pub mod Holding
