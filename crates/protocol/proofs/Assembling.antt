@@ -22,9 +22,8 @@ use Rattle.label.proofs.Accepting.{in-range}
 use Rattle.label.proofs.ReadWritten.{read-parts}
 use Rattle.protocol.specs.Geometry.{mostDisks, mostBlocks}
 use Rattle.protocol.specs.States.{blank, labelAt}
-use Rattle.protocol.specs.Soundness.{FitSet, FitLabel}
+use Rattle.protocol.specs.Soundness.{FitSet, FitLabel, Proper}
 use Rattle.protocol.specs.Saving.{slotReading, slotRefusals, assembleRefusals, assembled, assembleAnswer}
-use Rattle.protocol.specs.Claims.{Proper}
 use Rattle.protocol.proofs.Loops.{Each, nil, cons, each-ascending}
 use Rattle.protocol.proofs.Turns.{each-turn, listed-length, listed-at, listed-past, filled-up}
 use Rattle.protocol.proofs.Refusals.{Unmet, Numbered, none-applies}

@@ -8,18 +8,18 @@ use Rattle.sets.specs.Sets.{has}
 use Rattle.protocol.specs.declared.Power.{Power}
 use Rattle.protocol.specs.declared.Power.the-variants.{Stopped, Running}
 use Rattle.protocol.specs.Geometry.{block}
-use Rattle.protocol.specs.Soundness.{sound}
+use Rattle.protocol.specs.Soundness.{sound, Proper}
 use Rattle.protocol.specs.Stores.{Disks}
 use Rattle.protocol.specs.Outcomes.{Outcome}
 use Rattle.protocol.specs.Calls.{formatted, formatOutcome}
 use Rattle.protocol.specs.History.{Step, outcomeOf, ran}
 use Rattle.protocol.specs.Reference.{Contents, Reference, started, recorded, recordedAll}
 use Rattle.protocol.specs.Demand3.{CallIn, program, given, result, reference}
-use Rattle.protocol.specs.Claims.{Proper}
 use Rattle.protocol.proofs.Holding.{Steady}
 use Rattle.protocol.proofs.Safety.{Held, Safe, call-keeps}
 use Rattle.protocol.proofs.Formatting.{format-done, started-safe}
-use Rattle.protocol.proofs.Histories.{same-size, recorded-append, same-cabinet, after-calls}
+use Rattle.protocol.proofs.Endings.{same-size}
+use Rattle.protocol.proofs.Histories.{recorded-append, same-cabinet, after-calls}
 use Rattle.protocol.proofs.SoundCalls.{calls-keep, format-proper}
 
 -- the reference's cabinet holds the reference contents, is sound, and has its n and b

@@ -34,6 +34,7 @@ pub mod SoundCalls
 pub mod Assembling
 pub mod Saving
 -- lists of calls
+pub mod Endings
 pub mod Histories
 pub mod RestartCalls
 pub mod Invariant

@@ -1,11 +1,11 @@
 -- Which stores each list has: what holds of every such store holds of each in the list. Assumes nothing.
 use mathlib.Core.Path.{_≡_}
-use mathlib.Core.Bool.{true}
+use mathlib.Core.Bool.{true, cond}
 use mathlib.Core.List.{List, [], _∷_}
 use Prim.Native.Nat.{ℕ, _+_, _*_, _<_}
 use lib.Dec.{eqb, ltb}
 use borrow.Author.Tests.{ltb-true}
-use Rattle.sets.specs.Sets.{has}
+use Rattle.sets.specs.Sets.{has, difference, singleton}
 use Rattle.label.specs.declared.Label.{Label}
 use Rattle.protocol.specs.declared.State.{State}
 use Rattle.protocol.specs.Geometry.{regionSize, regions}
@@ -59,14 +59,14 @@ module _ {P : Store → Type 0} where
 
   -- ---- restart
 
-  -- of what each block of a region gives
-  each-of-region : (b r : ℕ) (f : ℕ → List Store) → ((k : ℕ) → k < b → Each P (f k)) → Each P (forBlocks b r f)
-  unfolding forBlocks
-  each-of-region b r f h = each-ascending regionSize _ (λ i l. each-if (ltb (r * regionSize + i) b) (λ e. h (r * regionSize + i) (ltb-true _ _ e)))
+  module _ (n b s r : ℕ) (h : (d k : ℕ) → d < n → k < b → P (copy (source s) d k)) where
+    -- of the region's block i
+    pub each-block-copy : (i : ℕ) → Each P (cond (ltb (r * regionSize + i) b) (forEach n (difference s (singleton (source s))) (λ d. copy (source s) d (r * regionSize + i) ∷ [])) [])
+    each-block-copy i = each-if (ltb (r * regionSize + i) b) (λ e. one-each _ _ _ (λ d l m. h d (r * regionSize + i) l (ltb-true _ _ e)))
 
-  pub each-copy : (n b s r : ℕ) → ((d k : ℕ) → d < n → k < b → P (copy (source s) d k)) → Each P (copies n b s r)
-  unfolding copies
-  each-copy n b s r h = each-of-region b r _ (λ k hk. one-each _ _ _ (λ d l m. h d k l hk))
+    pub each-copy : Each P (copies n b s r)
+    unfolding copies forBlocks
+    each-copy = each-ascending regionSize _ (λ i l. each-block-copy i)
 
   pub each-clear : (n s r : ℕ) → ((d : ℕ) → d < n → has s d ≡ true → P (clear d r)) → Each P (clears n s r)
   unfolding clears

@@ -13,6 +13,7 @@ use Rattle.label.specs.Refusals.{firstOf}
 use Rattle.protocol.specs.declared.Power.the-variants.{Stopped, Running}
 use Rattle.protocol.specs.declared.State.{State}
 use Rattle.protocol.specs.States.{isRunning}
+use Rattle.protocol.specs.Soundness.{Proper}
 use Rattle.protocol.specs.Stores.{Store}
 use Rattle.protocol.specs.Lists.{restartList}
 use Rattle.protocol.specs.Naming.{Found, none, one, several, Names}
@@ -20,7 +21,6 @@ use Rattle.protocol.specs.Outcomes.{Outcome, disksOf, refusedOr, carryOu
 use Rattle.protocol.specs.Calls.{isSeveral, theSet, foundBy, restartRefusals, restartOutcome}
 use Rattle.protocol.specs.History.{Cabinet}
 use Rattle.protocol.specs.Reference.{Contents}
-use Rattle.protocol.specs.Claims.{Proper}
 use Rattle.protocol.proofs.Soundness.{test-agrees}
 use Rattle.protocol.proofs.Refusals.{not-given}
 use Rattle.protocol.proofs.Naming.{found-names}

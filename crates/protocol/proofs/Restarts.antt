@@ -6,7 +6,7 @@ use mathlib.Core.List.{List, [], _∷_, _++_}
 use Prim.Native.Nat.{ℕ, suc, _+_, _*_, _%_, _<_}
 use native.Mathlib.Omega.{arith}
 use lib.Dec.{ltb}
-use borrow.Author.Tests.{ltb-true, lt-ltb, ne-eqb}
+use borrow.Author.Tests.{lt-ltb, ne-eqb}
 use Rattle.sets.specs.Sets.{has, difference, singleton}
 use Rattle.sets.proofs.Tests.{clash, same-or-not}
 use Rattle.sets.proofs.Operations.{has-difference, has-singleton}
@@ -18,8 +18,8 @@ use Rattle.protocol.specs.States.{labelAt, isDirty, source}
 use Rattle.protocol.specs.Stores.{Disks, Store, copy, clear, apply, applyAll}
 use Rattle.protocol.specs.Lists.{commits, forBlocks, copies, clears, mend, mends}
 use Rattle.protocol.specs.Reference.{Contents}
-use Rattle.protocol.proofs.Loops.{some-not, Each, nil, cons, each-if, each-member}
-use Rattle.protocol.proofs.ListStores.{each-copy, each-clear}
+use Rattle.protocol.proofs.Loops.{some-not}
+use Rattle.protocol.proofs.ListStores.{each-block-copy, each-copy, each-clear}
 use Rattle.protocol.proofs.Runs.{apply-append, Along, along-append, along-nil, Keeps, keeps, keeps-along, loop, loop-along, made-all, made-members}
 use Rattle.protocol.proofs.Areas.{region-known}
 use Rattle.protocol.proofs.Labels.{clear-keeps}
@@ -74,11 +74,6 @@ module _ (n b : ℕ) (c : Contents) (s : ℕ) (labels : List Label) where
   abbrev blockOf : ℕ → ℕ → ℕ
   blockOf r i = r * regionSize + i
 
-  -- each copy of a block keeps what is mended
-  block-keeps : (Q : Disks → Type 0) (r : ℕ) → ((d k : ℕ) → d < n → k < b → Keeps b Q (copy (source s) d k))
-      → (i : ℕ) → Each (Keeps b Q) (cond (ltb (blockOf r i) b) (blockCopies (blockOf r i)) [])
-  block-keeps Q r h i = each-if (ltb (blockOf r i) b) (λ e. each-member n others _ (λ d l m. cons (h d (blockOf r i) l (ltb-true _ _ e)) nil))
-
   mended-keeps : (r d k : ℕ) → d < n → k < b → Keeps b (Mended r) (copy (source s) d k)
   mended-keeps r d k hd hk w h = copy-keeps h d k hd hk
 
@@ -94,7 +89,7 @@ module _ (n b : ℕ) (c : Contents) (s : ℕ) (labels : List Label) where
 
   stays-copied : (r j : ℕ) → j < b → (i : ℕ) (w : Disks) → Mended r w → CopiedTo w j
       → CopiedTo (applyAll b (cond (ltb (blockOf r i) b) (blockCopies (blockOf r i)) []) w) j
-  stays-copied r j hj i w h q = keeps b Both (block-keeps Both r step i) w (h, q) .1
+  stays-copied r j hj i w h q = keeps b Both (each-block-copy n b s r step i) w (h, q) .1
     where
       Both : Disks → Type 0
       Both v = Mended r v × CopiedTo v j
@@ -106,7 +101,7 @@ module _ (n b : ℕ) (c : Contents) (s : ℕ) (labels : List Label) where
       → Mended r (applyAll b (copies n b s r) w) × ((i : ℕ) → i < regionSize → blockOf r i < b → CopiedTo (applyAll b (copies n b s r) w) (blockOf r i))
   unfolding copies forBlocks
   region-copied r = made-all b (λ i. cond (ltb (blockOf r i) b) (blockCopies (blockOf r i)) []) (Mended r) (λ i v. blockOf r i < b → CopiedTo v (blockOf r i)) regionSize
-      (λ i l w h. (keeps b (Mended r) (block-keeps (Mended r) r (mended-keeps r) i) w h, λ z. make i w h z))
+      (λ i l w h. (keeps b (Mended r) (each-block-copy n b s r (mended-keeps r) i) w h, λ z. make i w h z))
       (λ i j l q w h t z. stays-copied r (blockOf r j) z i w h (t z))
     where
       make : (i : ℕ) (w : Disks) → Mended r w → blockOf r i < b → CopiedTo (applyAll b (cond (ltb (blockOf r i) b) (blockCopies (blockOf r i)) []) w) (blockOf r i)

@@ -4,7 +4,7 @@ use mathlib.Core.Bool.{Bool, true, false, cond}
 use mathlib.Core.List.{List, [], _∷_, _++_}
 use Prim.Native.Nat.{ℕ, zero, suc, _≤_, _<_}
 use native.Mathlib.Omega.{arith}
-use lib.ListN.{length, take}
+use lib.ListN.{take}
 use lib.Seq.{take-nil}
 use Rattle.sets.specs.Sets.{has}
 use Rattle.protocol.specs.Loops.{ascending, forEach}
@@ -13,16 +13,16 @@ use Rattle.protocol.proofs.Loops.{or-last, Each, nil, cons, each-take}
 
 -- a cut list of two parts is a cut first part, or the whole first part and a cut second one
 pub data Cut {A : Type 0} (xs ys : List A) (k : ℕ) : Type 0 where
-  in-first : (j : ℕ) → j ≤ length xs → take k (xs ++ ys) ≡ take j xs → Cut xs ys k
+  in-first : (j : ℕ) → take k (xs ++ ys) ≡ take j xs → Cut xs ys k
   in-second : (j : ℕ) → take k (xs ++ ys) ≡ xs ++ take j ys → Cut xs ys k
 
 pub cut : {A : Type 0} (xs ys : List A) (k : ℕ) → Cut xs ys k
 cut [] ys k = in-second k refl
-cut (x ∷ xs) ys zero = in-first 0 (omega arith) refl
+cut (x ∷ xs) ys zero = in-first 0 refl
 cut (x ∷ xs) ys (suc k) = go (cut xs ys k)
   where
     go : Cut xs ys k → Cut (x ∷ xs) ys (suc k)
-    go (in-first j l e) = in-first (suc j) (omega arith) (ap (λ r. x ∷ r) e)
+    go (in-first j e) = in-first (suc j) (ap (λ r. x ∷ r) e)
     go (in-second j e) = in-second j (ap (λ r. x ∷ r) e)
 
 module _ (b : ℕ) where
@@ -39,7 +39,7 @@ module _ (b : ℕ) where
   along-append P xs ys w first second k = go (cut xs ys k)
     where
       go : Cut xs ys k → P (applyAll b (take k (xs ++ ys)) w)
-      go (in-first j l e) = rw e (first j)
+      go (in-first j e) = rw e (first j)
       go (in-second j e) = rw (e, apply-append) (second j)
 
   pub along-nil : (P : Disks → Type 0) (w : Disks) → P w → Along P [] w

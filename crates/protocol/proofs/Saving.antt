@@ -114,4 +114,4 @@ module _ (s : State) (fit : Sound s) where
 -- saved, then assembled: the state after a cut
 pub saved-assembles : SavedAssembles
 unfolding assembleAnswer assembled
-saved-assembles s area slots fit long e = rw (saved s fit area slots e, none-refused s fit, same-labels s fit long)
+saved-assembles s area slots p e = rw (saved s (p .fit) area slots e, none-refused s (p .fit), same-labels s (p .fit) (p .slots))

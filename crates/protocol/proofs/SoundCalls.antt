@@ -18,16 +18,13 @@ use Rattle.protocol.specs.declared.Call.{Call}
 use Rattle.protocol.specs.declared.Call.the-variants.{Read, Write, Join, Clean, Restart, Detach, Attach, PowerOff}
 use Rattle.protocol.specs.Geometry.{mostDisks, regionOf, regions}
 use Rattle.protocol.specs.States.{currentOf, live, source}
-use Rattle.protocol.specs.Soundness.{InRange, FitLabel, FitCurrent, FitPower}
+use Rattle.protocol.specs.Soundness.{InRange, FitLabel, FitCurrent, FitPower, Proper}
 use Rattle.protocol.specs.Stores.{Disks, Store, applyAll}
 use Rattle.protocol.specs.Lists.{moveToLive, preparations, fill, mends, writeList, joinList, cleanList, restartList}
 use Rattle.protocol.specs.Naming.{Found, none, one, several, Names}
 use Rattle.protocol.specs.Outcomes.{Outcome, refusedOr, withDisks, disksOf, carryOut}
-use Rattle.protocol.specs.Calls.{theSet, foundBy, withOnline, formatted, zeroState}
-use Rattle.protocol.specs.Calls.{formatRefusals}
-use Rattle.protocol.specs.Calls.{formatOutcome, readOutcome, writeOutcome, joinOutcome, cleanOutcome, restartOutcome, detachOutcome, attachOutcome, powerOffOutcome}
+use Rattle.protocol.specs.Calls.{theSet, foundBy, withOnline, formatted, zeroState, formatRefusals, formatOutcome, readOutcome, writeOutcome, joinOutcome, cleanOutcome, restartOutcome, detachOutcome, attachOutcome, powerOffOutcome}
 use Rattle.protocol.specs.History.{Step, Cabinet, perform, outcomeOf}
-use Rattle.protocol.specs.Claims.{Proper}
 use Rattle.protocol.proofs.Loops.{Each, each-append}
 use Rattle.protocol.proofs.ListStores.{each-commit, each-mark, each-block, each-fill, each-clean, each-mend}
 use Rattle.protocol.proofs.FitStores.{FitDisks, KeepsFit, fit-write, fit-copy, fit-mark, fit-clear, fit-commit, fit-move, fit-live, current-write, current-mark, current-clear, commits-current, move-current, live-current}

@@ -215,7 +215,7 @@ module _ (n b : ℕ) (c : Contents) (g l : ℕ) (w : Disks) (h : Steady n b c g 
 
       go : (later : List Store) → blockStores n l k bytes ≡ write (source l) k bytes ∷ later → Cut before (write (source l) k bytes ∷ later) p
           → Restartable n b (after (take p (before ++ write (source l) k bytes ∷ later))) (applyAll b (take p (before ++ write (source l) k bytes ∷ later)) w)
-      go later e (in-first j q z) = rw z (uncounted _ (early n (w .labels) g l k (source l) k j) (prepare-cut j))
+      go later e (in-first j z) = rw z (uncounted _ (early n (w .labels) g l k (source l) k j) (prepare-cut j))
       go later e (in-second zero z) = rw (z, append-nil) (uncounted _ (prepared n (w .labels) g l k (source l) k) (steady-stops n b c (prepare-done .0)))
       go later e (in-second (suc j) z) =
           rw (z, include-append, source-store, prepared, apply-append)

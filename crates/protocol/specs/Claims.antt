@@ -7,9 +7,9 @@ use lib.ListN.{length}
 use Rattle.sets.specs.Sets.{size}
 use Rattle.protocol.specs.declared.Call.the-variants.{Read, Write}
 use Rattle.protocol.specs.declared.State.{State}
-use Rattle.protocol.specs.Geometry.{mostDisks, areaSize}
+use Rattle.protocol.specs.Geometry.{areaSize}
 use Rattle.protocol.specs.States.{currentOf, live}
-use Rattle.protocol.specs.Soundness.{InRange, Sound}
+use Rattle.protocol.specs.Soundness.{InRange, Sound, Proper}
 use Rattle.protocol.specs.Lists.{preparations, writeList}
 use Rattle.protocol.specs.Calls.{formatOutcome, writeOutcome}
 use Rattle.protocol.specs.Saving.{saveOutcome, assembleAnswer}
@@ -24,11 +24,6 @@ abbrev pub FormatDone : Type 0
 FormatDone = (area output : List ℕ) (n b : ℕ) → InRange n b → length area ≡ areaSize n b → formatOutcome area output n b .answer .refusal ≡ 0
 
 -- ---- soundness
-
--- A sound state whose array has its length. That length is the array's type's, and decides no refusal.
-pub record Proper (s : State) : Type 0 where
-  pub fit : Sound s
-  pub slots : length (s .labels) ≡ mostDisks
 
 pub record SoundnessKept : Type 0 where
   -- whatever a call is given beside a sound state, and wherever it is cut

@@ -1,5 +1,5 @@
--- A way to find the set that a restart names which tries few sets: every candidate of a stage is one that some disk's own label has. It stands in
--- no promise.
+-- A finder of the set that a restart names. It tries few sets, since every candidate of a stage is one that some disk's own label has. It stands in no
+-- promise.
 use mathlib.Core.Path.{_≡_}
 use mathlib.Core.Bool.{cond}
 use mathlib.Core.List.{List}

@@ -18,7 +18,7 @@ use Rattle.protocol.specs.declared.Answer.{Answer}
 use Rattle.protocol.specs.Geometry.{mostDisks, regions}
 use Rattle.protocol.specs.Loops.{ascending}
 use Rattle.protocol.specs.States.{blank, labelAt}
-use Rattle.protocol.specs.Soundness.{Sound}
+use Rattle.protocol.specs.Soundness.{Proper}
 use Rattle.protocol.specs.Outcomes.{Outcome, outcome, refusedOr}
 use Rattle.protocol.specs.Calls.{unsound, wrongBlockCount, zeroState, poweredOff}
 
@@ -50,16 +50,19 @@ slotReading slots d = reading narrow (drop (slotSize * d) slots)
 -- "the label's own refusal; 18, its number or n is not this slot's; 22, a dirty bit names no region": of disk d of n with b blocks
 unfoldable pub slotRefusals : ℕ → ℕ → ℕ → Reading → List (ℕ × Bool)
 slotRefusals d n b r =
-    (r .refusal, not (eqb (r .refusal) 0))
-    ∷ (18, not (eqb (r .number) d && eqb (r .disks) n))
-    ∷ (22, not (below (r .label .dirty) (regions b)))
-    ∷ []
+    (r .refusal, not (eqb (r .refusal) 0)) ∷
+    (18, not (eqb (r .number) d && eqb (r .disks) n)) ∷
+    (22, not (below (r .label .dirty) (regions b))) ∷
+    []
 
 -- "Assemble: 4. 5. 2, slots not 5 × n bytes. 8, R names a disk from n up. Then for each slot ascending"
 unfoldable pub assembleRefusals : ℕ → ℕ → ℕ → List ℕ → List (ℕ × Bool)
 assembleRefusals n b online slots =
-    (4, outside narrow n) ∷ (5, wrongBlockCount b) ∷ (2, wrongSlots n slots) ∷ (8, not (below online n))
-    ∷ ascending n (λ d. slotRefusals d n b (slotReading slots d))
+    (4, outside narrow n) ∷
+    (5, wrongBlockCount b) ∷
+    (2, wrongSlots n slots) ∷
+    (8, not (below online n)) ∷
+    ascending n (λ d. slotRefusals d n b (slotReading slots d))
 
 -- "Assembling takes n, b, R and n slots, and gives a stopped state"
 unfoldable pub assembled : ℕ → ℕ → ℕ → List ℕ → State
@@ -81,5 +84,5 @@ assembleAnswer n b online slots = record {
 
 -- "from a saved state with its own R it gives the state after a cut": of a sound state and slots that save takes
 abbrev pub SavedAssembles : Type 0
-SavedAssembles = (s : State) (area slots : List ℕ) → Sound s → length (s .labels) ≡ mostDisks → length slots ≡ slotSize * s .disks
+SavedAssembles = (s : State) (area slots : List ℕ) → Proper s → length slots ≡ slotSize * s .disks
     → assembleAnswer (s .disks) (s .blocks) (s .online) (saveOutcome s area slots .output) ≡ record { refusal = 0; stores = 0; state = poweredOff s }

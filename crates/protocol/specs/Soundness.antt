@@ -5,6 +5,7 @@ use mathlib.Core.Bool.{Bool, true, not, _&&_, _||_}
 use mathlib.Core.List.{List}
 use Prim.Native.Nat.{ℕ, _≤_, _<_}
 use lib.Dec.{eqb, leb, ltb}
+use lib.ListN.{length}
 use Rattle.sets.specs.Sets.{has, below}
 use Rattle.label.specs.declared.Label.{Label}
 use Rattle.protocol.specs.declared.Power.{Power}
@@ -91,3 +92,10 @@ sound s =
 -- The test passes exactly where every part holds.
 abbrev pub TestAgrees : Type 0
 TestAgrees = (s : State) → (sound s ≡ true) ↔ Sound s
+
+-- ---- beside soundness
+
+-- A sound state whose array has its length. That length is the array's type's, and decides no refusal.
+pub record Proper (s : State) : Type 0 where
+  pub fit : Sound s
+  pub slots : length (s .labels) ≡ mostDisks
