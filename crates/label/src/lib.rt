@@ -7,6 +7,7 @@ mod rules;
 mod writer;
 
 pub use reader::read;
+pub use rules::outside;
 pub use writer::write;
 
 // "Each disk has a label: the committed set C, the tentative set T (0 means none), and the dirty map, bit r for region r. C

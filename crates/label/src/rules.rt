@@ -8,7 +8,7 @@ use sets::DISKS;
 use sets::Mask;
 
 // Whether n is no number of disks that a cabinet may have.
-pub(crate) fn outside(n: usize) -> bool
+pub fn outside(n: usize) -> bool
     ensures { λ r. ⌜ r ≡ outside narrow n ⌝ }
 {
     (n < 1) | (DISKS < n)

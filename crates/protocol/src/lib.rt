@@ -4,6 +4,7 @@ use label::Label;
 use sets::DISKS;
 use sets::Mask;
 
+pub mod geometry;
 pub mod refusal;
 
 // "a power condition: either running with a current set G, or stopped with none"
