@@ -1,13 +1,18 @@
 -- What holds of loops that go up from 0, and of the lists that they build. Assumes nothing.
-use mathlib.Core.Path.{_≡_, refl}
+use mathlib.Core.Path.{_≡_, refl, sym, ap, ap₂, _∙_}
 use mathlib.Core.Logic.{_≢_, _⊎_, inl, inr}
 use mathlib.Core.Bool.{Bool, true, false, not, cond, _||_, or-true}
 use mathlib.Core.List.{List, [], _∷_, _++_, append-nil, append-assoc}
 use Prim.Native.Nat.{ℕ, zero, suc, _+_, _≤_, _<_}
 use native.Mathlib.Omega.{arith}
+use lib.Dec.{eqb, ltb}
 use lib.ListN.{length, take, length-append}
-use Rattle.sets.specs.Sets.{has, members}
-use Rattle.sets.proofs.Tests.{Test, passes, fails, test, clash, and-parts, or-either, implied, implies, same-or-not}
+use borrow.Author.Tests.{eqb-true, eqb-false, ltb-true, ltb-false, lt-ltb, le-ltb}
+use Rattle.sets.specs.Sets.{has, singleton, below, size, members}
+use Rattle.sets.proofs.Tests.{Test, passes, fails, test, clash, and-parts, or-either, implied, implies, same-or-not, same-test}
+use Rattle.sets.proofs.Operations.{has-singleton}
+use Rattle.sets.proofs.Bounds.{below-pow}
+use Rattle.sets.proofs.Cardinality.{size-members}
 use Rattle.protocol.specs.Loops.{ascending, forEach, allBelow, someBelow, every, some}
 
 -- what holds below n and at n holds below n + 1
@@ -140,3 +145,59 @@ for-length-le (suc n) s f h =
     one-more : (t : Bool) → length (cond t (f n) []) ≤ length (cond t (n ∷ []) [])
     one-more true = h n
     one-more false = omega arith
+
+-- one that gives one for each is as long as the set is large
+pub for-length : {A : Type 0} (n s : ℕ) (f : ℕ → A) → below s n ≡ true → length (forEach n s (λ d. f d ∷ [])) ≡ size s
+unfolding forEach ascending members
+for-length n s f known = as-members n ∙ sym (size-members n s (below-pow s n .0 known))
+  where
+    one-more : (i : ℕ) (t : Bool) → length (cond t (f i ∷ []) []) ≡ length (cond t (i ∷ []) [])
+    one-more i true = refl
+    one-more i false = refl
+
+    as-members : (i : ℕ) → length (forEach i s (λ d. f d ∷ [])) ≡ length (members i s)
+    as-members zero = refl
+    as-members (suc i) =
+        length-append (forEach i s (λ d. f d ∷ [])) (cond (has s i) (f i ∷ []) [])
+        ∙ ap₂ _+_ (as-members i) (one-more i (has s i))
+        ∙ sym (length-append (members i s) (cond (has s i) (i ∷ []) []))
+
+-- ---- loops that give the same
+
+pub same-turns : {A : Type 0} (n : ℕ) (f g : ℕ → List A) → ((i : ℕ) → i < n → f i ≡ g i) → ascending n f ≡ ascending n g
+unfolding ascending
+same-turns zero f g same = refl
+same-turns (suc n) f g same = rw (same-turns n f g (λ i l. same i (omega arith)), same n (omega arith))
+
+-- a loop over one disk
+pub for-one : {A : Type 0} (n d : ℕ) (f : ℕ → List A) → d < n → forEach n (singleton d) f ≡ f d
+unfolding forEach ascending
+for-one n d f below = alone n ∙ rw (lt-ltb d n below)
+  where
+    last : (i : ℕ) (t : Bool) → eqb i d ≡ t → cond (ltb d i) (f d) [] ++ cond t (f i) [] ≡ cond (ltb d (suc i)) (f d) []
+    last i true e = rw (eqb-true i d e, le-ltb d d (omega arith), lt-ltb d (suc d) (omega arith))
+    last i false e =
+        let other : i ≢ d = eqb-false i d e in
+        append-nil (cond (ltb d i) (f d) [])
+        ∙ ap (λ t. cond t (f d) [])
+        (same-test (ltb d i) (ltb d (suc i)) (λ p. lt-ltb d (suc i) (omega (arith, ltb-true d i p))) (λ p. lt-ltb d i (omega (arith, ltb-true d (suc i) p))))
+
+    alone : (i : ℕ) → ascending i (λ e. cond (has (singleton d) e) (f e) []) ≡ cond (ltb d i) (f d) []
+    alone zero = rw (le-ltb d 0 (omega arith))
+    alone (suc i) = rw (alone i, has-singleton d i) (last i (eqb i d) refl)
+
+-- a loop that gives nothing from m on
+pub until : {A : Type 0} (n m : ℕ) (f : ℕ → List A) → ascending n (λ i. cond (ltb i m) (f i) []) ≡ ascending (cond (ltb m n) m n) f
+unfolding ascending
+until zero m f = rw (le-ltb m 0 (omega arith))
+until (suc n) m f = rw (until n m f) (go (test (ltb n m)))
+  where
+    least : (t : Bool) → ltb m n ≡ t → m ≤ n → cond t m n ≡ m
+    least true e l = refl
+    least false e l = omega (arith, ltb-false m n e)
+
+    go : Test (ltb n m) → ascending (cond (ltb m n) m n) f ++ cond (ltb n m) (f n) [] ≡ ascending (cond (ltb m (suc n)) m (suc n)) f
+    go (passes e) = let l = ltb-true n m e in rw (e, le-ltb m n (omega arith), le-ltb m (suc n) (omega arith))
+    go (fails e) =
+        let l : m ≤ n = ltb-false n m e in
+        rw (e, lt-ltb m (suc n) (omega arith)) (append-nil _ ∙ ap (λ i. ascending i f) (least (ltb m n) refl l))

@@ -1,8 +1,8 @@
 -- The size of a set is the number of its members. Assumes nothing.
 use mathlib.Core.Path.{_≡_, refl, sym, ap, ap₂, _∙_}
-use mathlib.Core.Bool.{cond}
+use mathlib.Core.Bool.{Bool, true, false, cond}
 use mathlib.Core.List.{[], _∷_}
-use Prim.Native.Nat.{ℕ, zero, suc, _+_, _/_, _%_, _^_, _<_}
+use Prim.Native.Nat.{ℕ, zero, suc, _+_, _/_, _%_, _^_, _≤_, _<_}
 use native.Mathlib.Nat.{mod-lt, mod-eq-of-lt, add-comm}
 use native.Mathlib.Numerals.{one-add}
 use native.Mathlib.Omega.{arith}
@@ -34,3 +34,16 @@ size-low (suc k) s =
 pub size-members : (k s : ℕ) → s < 2 ^ k → size s ≡ length (members k s)
 unfolding size
 size-members k s h = ap ones (sym (mod-eq-of-lt h)) ∙ size-low k s
+
+-- no set below n has more than n members
+members-most : (k s : ℕ) → length (members k s) ≤ k
+unfolding members
+members-most zero s = omega arith
+members-most (suc k) s = omega (arith, length-append (members k s) (cond (has s k) (k ∷ []) []), one (has s k), members-most k s)
+  where
+    one : (t : Bool) → length (cond t (k ∷ []) []) ≤ 1
+    one true = omega arith
+    one false = omega arith
+
+pub size-most : (n s : ℕ) → s < 2 ^ n → size s ≤ n
+size-most n s h = rw (size-members n s h) (members-most n s)

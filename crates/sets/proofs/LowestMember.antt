@@ -14,6 +14,7 @@ use borrow.Author.Tests.{eq-eqb}
 use Rattle.sets.specs.Sets.{has, lowest}
 use Rattle.sets.proofs.Tests.{clash}
 use Rattle.sets.proofs.Membership.{has-empty, has-half, has-lowest-bit}
+use Rattle.sets.proofs.Bounds.{member-below}
 
 -- ---- the count of trailing zeros, at any width k that holds the set
 
@@ -67,3 +68,9 @@ lowest-is s i h f = go (decLt (lowest s) i) (decLt i (lowest s))
 -- the code's way, at any width k that holds the set
 pub trailing-lowest : (k s : ℕ) → s < 2 ^ k → 0 < s → trailingZeros k s ≡ lowest s
 trailing-lowest k s h p = sym (lowest-is s (trailingZeros k s) (trailing-has k s h p) (trailing-least k s))
+
+-- in a set of n disks, the empty one included, it is one of them
+pub lowest-below : (n s : ℕ) → 0 < n → s < 2 ^ n → lowest s < n
+unfolding lowest trailingZeros
+lowest-below n zero some known = some
+lowest-below n (suc s) some known = member-below (suc s) n (lowest (suc s)) known (lowest-has (suc s) (omega arith))

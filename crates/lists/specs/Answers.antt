@@ -1,0 +1,16 @@
+-- The answer of a call with a list of so many stores, of which as many were made as the budget allows; these labels are what they left.
+use mathlib.Core.Bool.{cond}
+use mathlib.Core.List.{List}
+use Prim.Native.Nat.{ℕ}
+use lib.Dec.{ltb}
+use Rattle.label.specs.declared.Label.{Label}
+use Rattle.protocol.specs.declared.Answer.{Answer}
+use Rattle.protocol.specs.declared.State.{State}
+use Rattle.protocol.specs.declared.Power.the-variants.{Stopped, Running}
+use Rattle.protocol.specs.Outcomes.{withDisks}
+
+unfoldable pub answered : State → List Label → ℕ → ℕ → ℕ → Answer
+answered s labels stores g budget =
+    cond (ltb budget stores)
+    (record { refusal = 15; stores = budget; state = withDisks s labels Stopped })
+    (record { refusal = 0; stores = stores; state = withDisks s labels (Running g) })

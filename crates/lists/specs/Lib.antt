@@ -1,0 +1,4 @@
+pub mod Ready
+pub mod Regions
+pub mod Answers
+pub mod Turns
