@@ -10,7 +10,8 @@ use Rattle.protocol.specs.declared.Power.the-variants.{Stopped, Running}
 use Rattle.protocol.specs.Outcomes.{withDisks}
 
 unfoldable pub answered : State → List Label → ℕ → ℕ → ℕ → Answer
-answered s labels stores g budget =
-    cond (ltb budget stores)
-    (record { refusal = 15; stores = budget; state = withDisks s labels Stopped })
-    (record { refusal = 0; stores = stores; state = withDisks s labels (Running g) })
+answered s labels stores g budget = record {
+  refusal = cond (ltb budget stores) 15 0;
+  stores = cond (ltb budget stores) budget stores;
+  state = withDisks s labels (cond (ltb budget stores) Stopped (Running g));
+}

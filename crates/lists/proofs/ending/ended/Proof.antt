@@ -1,20 +1,21 @@
 -- `lists::ending::ended` meets its contract. Assumes nothing.
-use borrow.Author.Tests.{lt-ltb, le-ltb}
 use borrow.Author.Needs.{needs}
 use Rattle.lists.specs.Answers.{answered}
 use Rattle.lists.proofs.ending.ended.Statement.{statement}
 use Rattle.lists.proofs.ending.ended.Tie as tie
 
-cast-t12 : tie.Need-cast-t12
-cast-t12 c = search needs
+power-after-requires : tie.Need-power-after-requires
+power-after-requires c κs = search needs
+
+refusal-after-requires : tie.Need-refusal-after-requires
+refusal-after-requires c κs = search needs
+
+made-requires : tie.Need-made-requires
+made-requires c κs = search needs
 
 returns : tie.Need-returns
 unfolding answered
-returns c = rw (lt-ltb _ _ (c .if1 .taken))
-
-returns-2 : tie.Need-returns-2
-unfolding answered
-returns-2 c = rw (le-ltb _ _ (c .if1 .left))
+returns c = rw (c .made .ensures, c .before .refusal-after .ensures, c .before .before .before .power-after .ensures)
 
 pub ended-spec : {M : Type 1} → statement M
-ended-spec = tie.close (tie.spec cast-t12 returns returns-2)
+ended-spec = tie.close (tie.spec power-after-requires refusal-after-requires made-requires returns)
