@@ -1,0 +1,23 @@
+-- `state::geometry::regions` meets its contract. Assumes nothing.
+use native.Mathlib.Omega.{arith}
+use borrow.Author.Needs.{needs}
+use Rattle.protocol.specs.Geometry.{regions}
+use Rattle.state.proofs.geometry.regions.Statement.{statement}
+use Rattle.state.proofs.geometry.regions.Tie as tie
+
+sub-result : tie.Need-sub-result
+sub-result c = search needs
+
+add-result : tie.Need-add-result
+add-result c = search needs
+
+returns : tie.Need-returns
+unfolding regions
+returns c = omega arith
+
+returns-2 : tie.Need-returns-2
+unfolding regions
+returns-2 c = omega arith
+
+pub regions-spec : {M : Type 1} → statement M
+regions-spec = tie.close (tie.spec sub-result add-result returns returns-2)

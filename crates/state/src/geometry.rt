@@ -1,0 +1,25 @@
+// The numbers of blocks and regions.
+ghost use mathlib.Core.Path.{_≡_};
+ghost use Rattle.protocol.specs.Geometry.{regions};
+ghost use Rattle.protocol.specs.Calls.{wrongBlockCount};
+use protocol::geometry::MOST_BLOCKS;
+use protocol::geometry::REGION_SIZE;
+
+// How many regions so many blocks have; "the last may be short". Counted from the last block, since a sum that rounds up
+// could overflow.
+pub fn regions(blocks: usize) -> usize
+    ensures { λ r. ⌜ r ≡ regions blocks ⌝ }
+{
+    if blocks == 0 {
+        0
+    } else {
+        (blocks - 1) / REGION_SIZE + 1
+    }
+}
+
+// "5, b outside 1 to 64"
+pub fn wrong_block_count(blocks: usize) -> bool
+    ensures { λ r. ⌜ r ≡ wrongBlockCount blocks ⌝ }
+{
+    (blocks < 1) | (MOST_BLOCKS < blocks)
+}
