@@ -1,27 +1,31 @@
 -- Slots that are written one after the other. Assumes nothing.
 use mathlib.Core.Path.{_≡_, refl, sym, _∙_}
+use mathlib.Core.Bool.{not}
 use mathlib.Core.List.{List, [], _∷_, _++_, append-nil, append-assoc}
 use Prim.Native.Nat.{ℕ, zero, suc, _+_, _-_, _*_, _≤_, _<_}
 use native.Mathlib.Nat.{sub-zero, zero-sub, suc-sub-suc, zero-add, mul-suc, add-sub-of-le, add-sub-cancel-left}
 use native.Mathlib.Numerals.{add-one}
 use native.Mathlib.Omega.{arith}
+use lib.Dec.{eqb}
 use lib.ListN.{length, take, drop, replicate, length-append, length-replicate}
 use lib.Seq.{take-at, drop-at, drop-drop, drop-length}
-use borrow.Author.Tests.{lt-leb}
+use borrow.Author.Tests.{eqb-true, lt-leb, not-false}
 use borrow.Rule.Slice.PartMut.{putMid}
 use Rattle.label.specs.declared.Label.{Label}
 use Rattle.label.specs.Form.{narrow}
 use Rattle.label.specs.Bytes.{encode}
-use Rattle.label.specs.Refusals.{wrongSets}
+use Rattle.label.specs.Refusals.{firstOf, wrongSets}
 use Rattle.label.specs.Writing.{splice, writeRefusal, writtenBytes}
+use Rattle.label.proofs.Order.{none-at}
 use Rattle.label.proofs.Accepting.{accepted}
 use Rattle.label.proofs.Codec.{narrow-codec}
 use Rattle.protocol.specs.declared.State.{State}
 use Rattle.protocol.specs.Loops.{ascending}
 use Rattle.protocol.specs.States.{labelAt}
 use Rattle.protocol.specs.Soundness.{Sound}
+use Rattle.protocol.specs.Calls.{unsound}
 use Rattle.protocol.specs.Saving.{slotSize, slotBytes}
-use Rattle.protocol.proofs.Soundness.{not-outside}
+use Rattle.protocol.proofs.Soundness.{not-outside, test-agrees}
 use Rattle.protocol.proofs.Turns.{even-length}
 use Rattle.protocol.proofs.Assembling.{right-set}
 
@@ -77,3 +81,10 @@ module _ (m : ℕ) (f : ℕ → List ℕ) (even : (i : ℕ) → length (f i) ≡
 
   pub slots-end : length old ≡ m * d → now ≡ ascending d f
   slots-end h = e ∙ rw (← h, drop-length, append-nil)
+
+-- ---- where save is not refused
+
+pub save-passed : (s : State) (size : ℕ) → firstOf (unsound s ∷ (2, not (eqb size (slotSize * s .disks))) ∷ []) ≡ 0 → Sound s × (size ≡ slotSize * s .disks)
+save-passed s size e =
+    let no = none-at (unsound s ∷ (2, not (eqb size (slotSize * s .disks))) ∷ []) refl e in
+    (test-agrees s .0 (not-false _ (no 0)), eqb-true _ _ (not-false _ (no 1)))

@@ -5,4 +5,4 @@ mod form;
 mod saving;
 
 pub use assembling::assemble;
-
+pub use saving::save;

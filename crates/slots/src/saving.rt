@@ -1,16 +1,28 @@
 // Saving a state's labels to slots.
 ghost use mathlib.Core.Path.{_≡_};
-ghost use Prim.Native.Nat.{_*_};
+ghost use mathlib.Core.Bool.{not};
+ghost use mathlib.Core.List.{List, [], _∷_};
+ghost use Prim.Native.Nat.{ℕ, _*_};
+ghost use lib.Dec.{eqb};
 ghost use lib.ListN.{length};
 ghost use Rattle.label.specs.Form.{narrow};
+ghost use Rattle.label.specs.Refusals.{firstOf};
 ghost use Rattle.label.specs.Writing.{writeRefusal};
 ghost use Rattle.protocol.specs.Loops.{ascending};
 ghost use Rattle.protocol.specs.States.{labelAt};
 ghost use Rattle.protocol.specs.Soundness.{Sound};
-ghost use Rattle.protocol.specs.Saving.{slotSize, slotBytes};
+ghost use Rattle.protocol.specs.Calls.{unsound};
+ghost use Rattle.protocol.specs.Saving.{slotSize, slotBytes, saveOutcome};
 use crate::form::SLOT_SIZE;
+use crate::form::wrong_size;
 use label::Label;
+use label::refusal::or_else;
+use protocol::Answer;
 use protocol::State;
+use protocol::refusal::BUFFER_LENGTH;
+use protocol::refusal::UNSOUND;
+use state::sound;
+use state::without_stores;
 
 // The writer leaves the bytes beyond a label, so the slot is cleared first.
 fn write_slot(slot: &mut [u8], d: usize, disks: usize, label: Label)
@@ -33,5 +45,27 @@ fn write_slots(s: State, slots: &mut [u8])
         let to = from + SLOT_SIZE;
         write_slot(&mut slots[from..to], d, disks, labels[d]);
         d += 1;
+    }
+}
+
+// "Every call that takes a state: 1, the state is not sound." "Save: 2, the slot buffer is not 5 × n bytes."
+fn save_refusal(s: State, size: usize) -> u8
+    ensures { λ r. ⌜ r ≡ firstOf (unsound s ∷ (2, not (eqb size (slotSize * s .disks))) ∷ []) ⌝ }
+{
+    let disks = s.disks as usize;
+    let first = or_else(0, !sound(s), UNSOUND);
+    or_else(first, wrong_size(disks, size), BUFFER_LENGTH)
+}
+
+// The slot buffer is its output; it has no disk area, so it leaves any.
+pub fn save(s: State, slots: &mut [u8]) -> Answer
+    ensures { λ r. ⌜ ((area : List ℕ) → record { answer = r; area = area; output = now (slots .exit) } ≡ saveOutcome s area (now (slots .entry))) ⌝ }
+{
+    let refusal = save_refusal(s, slots.len());
+    if refusal == 0 {
+        write_slots(s, slots);
+        without_stores(s, 0)
+    } else {
+        without_stores(s, refusal)
     }
 }
