@@ -1,26 +1,18 @@
 -- The first refusal of slots, as the code finds it. Assumes nothing.
 use mathlib.Core.Path.{_≡_, refl}
 use mathlib.Core.Logic.{_≢_, _⊎_, inl, inr}
-use mathlib.Core.Bool.{Bool, true, false, not, cond, _&&_, _||_, or-true}
+use mathlib.Core.Bool.{Bool, true, false, not, cond, _||_, or-true}
 use mathlib.Core.List.{List, [], _∷_, _++_}
-use Prim.Native.Nat.{ℕ, zero, suc, _*_, _/_, _%_, _≤_}
+use Prim.Native.Nat.{ℕ, zero, suc, _*_, _/_, _%_}
 use native.Mathlib.Omega.{arith}
-use lib.Dec.{eqb, ltb, eqb·suc-zero, lit<}
-use lib.ListN.{length, take}
-use borrow.Author.Tests.{eq-eqb, ne-eqb, eqb-true, ltb-false, not-false}
-use Rattle.sets.specs.Sets.{below}
-use Rattle.sets.proofs.Tests.{or-parts, same-or-not}
-use Rattle.label.specs.Form.{narrow}
+use lib.Dec.{eqb, eqb·suc-zero}
+use borrow.Author.Tests.{eq-eqb, ne-eqb}
+use Rattle.sets.proofs.Tests.{same-or-not}
 use Rattle.label.specs.Bytes.{longestLabel}
 use Rattle.label.specs.Refusals.{firstOf, orElse}
-use Rattle.label.specs.declared.Reading.{Reading}
-use Rattle.label.proofs.Order.{none-at}
-use Rattle.label.proofs.Accepting.{in-range}
-use Rattle.protocol.specs.Geometry.{mostDisks, mostBlocks, regions}
-use Rattle.protocol.specs.Saving.{slotSize, slotRefusals, assembleRefusals}
+use Rattle.protocol.specs.Saving.{slotSize}
 use Rattle.protocol.proofs.Loops.{Each, nil, cons}
 use Rattle.protocol.proofs.Refusals.{Numbered}
-use Rattle.slots.specs.Below.{refusalsBelow}
 
 -- ---- the size of a slot buffer
 

@@ -24,13 +24,17 @@ use protocol::refusal::UNSOUND;
 use state::sound;
 use state::without_stores;
 
-// The writer leaves the bytes beyond a label, so the slot is cleared first.
+// The label, and "the rest of the slot zero".
 fn write_slot(slot: &mut [u8], d: usize, disks: usize, label: Label)
     requires { ⌜ (length (now slot) ≡ slotSize) × (writeRefusal narrow d disks label slotSize ≡ 0) ⌝ }
     ensures { λ _. ⌜ now (slot .exit) ≡ slotBytes d disks label ⌝ }
 {
-    area::clear(slot);
-    label::write(slot, d, disks, label);
+    let written = label::write(slot, d, disks, label);
+    let mut i = written.length;
+    while i < SLOT_SIZE {
+        slot[i] = 0;
+        i += 1;
+    }
 }
 
 fn write_slots(s: State, slots: &mut [u8])

@@ -26,7 +26,7 @@ returns-2 c =
     let first = c .before .before .before .arguments-refusal .ensures in
     let refused = c .before .before .if1 .left in
     c .without-stores .ensures ∙ rw (c .before .zero .ensures)
-        (refused-answer _ _ _ _ (arguments-stop _ _ (a .online) _ (λ z. refused (first ∙ z)) ∙ sym first) refused)
+    (refused-answer _ _ _ _ (arguments-stop _ _ (a .online) _ (λ z. refused (first ∙ z)) ∙ sym first) refused)
 
 pub assemble-spec : {M : Type 1} → statement M
 assemble-spec =

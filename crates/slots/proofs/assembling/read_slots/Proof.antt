@@ -64,8 +64,7 @@ unfolding longestLabel
 loop-again c =
     let l = c .before .before .before .before .before .before .loop in
     let a = c .before .before .before .before .before .before .before .before .args in
-    let found = slot-read (a .slots .now) (l .d) (c .before .before .before .read .ensures) in
-    (
+    let found = slot-read (a .slots .now) (l .d) (c .before .before .before .read .ensures) in (
       omega arith,
       refusal-turn (l .d) (a .disks) (a .blocks) (a .slots .now) found (l .inv .1) (c .before .before .slot-refusal .ensures) (c .before .or-else .ensures),
       label-turn (l .d) (a .disks) (a .blocks) (a .slots .now) found (l .inv .2) (omega arith),

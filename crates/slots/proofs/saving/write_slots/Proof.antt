@@ -9,7 +9,7 @@ use Rattle.label.specs.Bytes.{longestLabel}
 use Rattle.protocol.specs.Loops.{ascending}
 use Rattle.protocol.specs.States.{labelAt}
 use Rattle.protocol.specs.Saving.{slotSize, slotBytes}
-use Rattle.slots.proofs.Written.{slot-length, label-taken, slots-turn, slots-end}
+use Rattle.slots.proofs.Written.{label-taken, slots-turn, slots-end}
 use Rattle.slots.proofs.saving.write_slots.Statement.{statement}
 use Rattle.slots.proofs.saving.write_slots.Tie as tie
 
@@ -69,12 +69,8 @@ loop-again : tie.Need-loop-again Inv-loop μ-loop
 unfolding longestLabel
 loop-again c =
     let l = c .before .before .before .before .before .before .loop in
-    let s = c .before .before .before .before .before .before .before .before .before .before .args .s in
-    (
-      omega arith,
-      search needs,
-      slots-turn 5 (λ i. slotBytes i (s .disks) (labelAt (s .labels) i)) (λ i. slot-length i (s .disks) (labelAt (s .labels) i)) _ (l .slots) (l .d) (l .inv .2) _ (c .before .before .write-slot .ensures),
-    )
+    let a = c .before .before .before .before .before .before .before .before .before .before .args in
+    (omega arith, search needs, slots-turn (a .s) (a .slots .now) (l .slots) (l .d) (l .inv .2) (c .before .before .write-slot .ensures))
 
 same-length : tie.Need-same-length Inv-loop μ-loop
 same-length c = search needs
@@ -82,9 +78,8 @@ same-length c = search needs
 returns : tie.Need-returns Inv-loop μ-loop
 returns c =
     let l = c .before .loop in
-    let s = c .before .before .before .before .before .args .s in
-    let e : l .d ≡ s .disks = omega arith in
-    rw e at (slots-end slotSize (λ i. slotBytes i (s .disks) (labelAt (s .labels) i)) (λ i. slot-length i (s .disks) (labelAt (s .labels) i)) _ (l .slots) (l .d) (l .inv .2) (rw e (c .before .before .before .before .before .pre .1)))
+    let start = c .before .before .before .before .before in
+    slots-end (start .args .s) (start .args .slots .now) (l .slots) (l .d) (l .inv .2) (start .pre .1) (omega arith)
 
 pub write-slots-spec : {M : Type 1} → statement M
 write-slots-spec =
