@@ -27,14 +27,14 @@ wrong-if size n = go (same-or-not size (5 * n)) (same-or-not (size / 5) n)
 
 -- ---- one slot
 
--- its own refusals, behind what the label reader gave
-pub slot-first : (own : ℕ) (place dirty : Bool)
-    → orElse (orElse own place 18) dirty 22 ≡ firstOf ((own, not (eqb own 0)) ∷ (18, place) ∷ (22, dirty) ∷ [])
+-- its refusals in turn, where the number of the first may be 0
+pub slot-first : (own : ℕ) (place region : Bool)
+    → orElse (orElse (orElse 0 (not (eqb own 0)) own) place 18) region 22 ≡ firstOf ((own, not (eqb own 0)) ∷ (18, place) ∷ (22, region) ∷ [])
 unfolding orElse firstOf
-slot-first zero true dirty = refl
+slot-first zero true region = refl
 slot-first zero false true = refl
 slot-first zero false false = refl
-slot-first (suc own) place dirty = simp (eqb·suc-zero own)
+slot-first (suc own) place region = simp (eqb·suc-zero own)
 
 -- ---- paragraphs in a row
 

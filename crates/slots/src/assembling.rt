@@ -38,20 +38,26 @@ struct Slots {
 fn arguments_refusal(disks: usize, blocks: usize, online: Mask, slots: &[u8]) -> u8
     ensures { λ r. ⌜ r ≡ firstOf (take 4 (assembleRefusals disks blocks online (now (slots .entry)))) ⌝ }
 {
-    let first = or_else(0, outside(disks), DISK_COUNT);
-    let first = or_else(first, wrong_block_count(blocks), BLOCK_COUNT);
-    let first = or_else(first, wrong_size(disks, slots.len()), BUFFER_LENGTH);
-    or_else(first, !sets::below(online, disks), NO_SUCH_DISK)
+    let count = outside(disks);
+    let block_count = wrong_block_count(blocks);
+    let size = wrong_size(disks, slots.len());
+    let known = sets::below(online, disks);
+    let first = or_else(0, count, DISK_COUNT);
+    let first = or_else(first, block_count, BLOCK_COUNT);
+    let first = or_else(first, size, BUFFER_LENGTH);
+    or_else(first, !known, NO_SUCH_DISK)
 }
 
 // "the label's own refusal; 18, its number or n is not this slot's; 22, a dirty bit names no region"
 fn slot_refusal(d: usize, disks: usize, blocks: usize, reading: Reading) -> u8
     ensures { λ r. ⌜ r ≡ firstOf (slotRefusals d disks blocks reading) ⌝ }
 {
+    let own = reading.refusal;
     let place = (reading.number == d) & (reading.disks == disks);
-    let dirty = sets::below(reading.label.dirty, regions(blocks));
-    let first = or_else(reading.refusal, !place, LABEL_PLACE);
-    or_else(first, !dirty, NO_SUCH_REGION)
+    let known = sets::below(reading.label.dirty, regions(blocks));
+    let first = or_else(0, own != 0, own);
+    let first = or_else(first, !place, LABEL_PLACE);
+    or_else(first, !known, NO_SUCH_REGION)
 }
 
 // The label reader is handed the part of the slots that starts at a disk's slot.
@@ -81,7 +87,7 @@ fn read_slots(disks: usize, blocks: usize, slots: &[u8]) -> Slots
     }
 }
 
-// Once no argument is refused.
+// Assembles, once no argument is refused.
 fn from_slots(disks: usize, blocks: usize, online: Mask, slots: &[u8]) -> Answer
     requires { ⌜ firstOf (take 4 (assembleRefusals disks blocks online (now slots))) ≡ 0 ⌝ }
     ensures { λ r. ⌜ r ≡ assembleAnswer disks blocks online (now (slots .entry)) ⌝ }

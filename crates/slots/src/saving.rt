@@ -57,8 +57,10 @@ fn save_refusal(s: State, size: usize) -> u8
     ensures { λ r. ⌜ r ≡ firstOf (unsound s ∷ (2, not (eqb size (slotSize * s .disks))) ∷ []) ⌝ }
 {
     let disks = s.disks as usize;
-    let first = or_else(0, !sound(s), UNSOUND);
-    or_else(first, wrong_size(disks, size), BUFFER_LENGTH)
+    let fit = sound(s);
+    let wrong = wrong_size(disks, size);
+    let first = or_else(0, !fit, UNSOUND);
+    or_else(first, wrong, BUFFER_LENGTH)
 }
 
 // The slot buffer is its output; it has no disk area, so it leaves any.

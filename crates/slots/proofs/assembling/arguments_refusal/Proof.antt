@@ -9,23 +9,23 @@ use Rattle.slots.proofs.assembling.arguments_refusal.Tie as tie
 outside-requires : tie.Need-outside-requires
 outside-requires c κs = search needs
 
-or-else-requires : tie.Need-or-else-requires
-or-else-requires c κs = search needs
-
 wrong-block-count-requires : tie.Need-wrong-block-count-requires
 wrong-block-count-requires c κs = search needs
-
-or-else-requires-2 : tie.Need-or-else-requires-2
-or-else-requires-2 c κs = search needs
 
 wrong-size-requires : tie.Need-wrong-size-requires
 wrong-size-requires c κs = search needs
 
-or-else-requires-3 : tie.Need-or-else-requires-3
-or-else-requires-3 c κs = search needs
-
 below-requires : tie.Need-below-requires
 below-requires c κs = search needs
+
+or-else-requires : tie.Need-or-else-requires
+or-else-requires c κs = search needs
+
+or-else-requires-2 : tie.Need-or-else-requires-2
+or-else-requires-2 c κs = search needs
+
+or-else-requires-3 : tie.Need-or-else-requires-3
+or-else-requires-3 c κs = search needs
 
 or-else-requires-4 : tie.Need-or-else-requires-4
 or-else-requires-4 c κs = search needs
@@ -39,11 +39,11 @@ arguments-refusal-spec =
     tie.close
     (tie.spec
     outside-requires
-    or-else-requires
     wrong-block-count-requires
-    or-else-requires-2
     wrong-size-requires
-    or-else-requires-3
     below-requires
+    or-else-requires
+    or-else-requires-2
+    or-else-requires-3
     or-else-requires-4
     returns)

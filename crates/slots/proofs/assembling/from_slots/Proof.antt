@@ -10,10 +10,10 @@ read-slots-requires : tie.Need-read-slots-requires
 read-slots-requires c κs = let p = arguments-passed _ _ (c .before .args .online) _ (c .before .pre) in (p .disks, p .size)
 
 cast-t10 : tie.Need-cast-t10
-cast-t10 c = let a = c .before .before .before .before .before in omega (arith, arguments-passed _ _ (a .args .online) _ (a .pre) .disks)
+cast-t10 c = let a = c .before .before .before .before .before in omega (arith, arguments-passed _ _ (a .args .online) _ (a .pre))
 
 cast-t11 : tie.Need-cast-t11
-cast-t11 c = let a = c .before .before .before .before .before in omega (arith, arguments-passed _ _ (a .args .online) _ (a .pre) .blocks)
+cast-t11 c = let a = c .before .before .before .before .before in omega (arith, arguments-passed _ _ (a .args .online) _ (a .pre))
 
 without-stores-requires : tie.Need-without-stores-requires
 without-stores-requires c κs = search needs

@@ -23,7 +23,6 @@ unfolding ascending firstOf
 loop-holds c = (omega arith, refl, refl)
 
 mul-at : tie.Need-mul-at Inv-loop μ-loop
-unfolding longestLabel
 mul-at c = search needs
 
 sub-read : tie.Need-sub-read Inv-loop μ-loop

@@ -17,6 +17,9 @@ or-else-requires c κs = search needs
 or-else-requires-2 : tie.Need-or-else-requires-2
 or-else-requires-2 c κs = search needs
 
+or-else-requires-3 : tie.Need-or-else-requires-3
+or-else-requires-3 c κs = search needs
+
 returns : tie.Need-returns
 unfolding slotRefusals
 returns c = rw (← slot-first) (cc)
@@ -24,4 +27,10 @@ returns c = rw (← slot-first) (cc)
 pub slot-refusal-spec : {M : Type 1} → statement M
 slot-refusal-spec =
     tie.close
-    (tie.spec regions-requires below-requires or-else-requires or-else-requires-2 returns)
+    (tie.spec
+    regions-requires
+    below-requires
+    or-else-requires
+    or-else-requires-2
+    or-else-requires-3
+    returns)

@@ -11,11 +11,11 @@ cast-disks c = search needs
 sound-requires : tie.Need-sound-requires
 sound-requires c κs = search needs
 
-or-else-requires : tie.Need-or-else-requires
-or-else-requires c κs = search needs
-
 wrong-size-requires : tie.Need-wrong-size-requires
 wrong-size-requires c κs = search needs
+
+or-else-requires : tie.Need-or-else-requires
+or-else-requires c κs = search needs
 
 or-else-requires-2 : tie.Need-or-else-requires-2
 or-else-requires-2 c κs = search needs
@@ -29,7 +29,7 @@ save-refusal-spec =
     (tie.spec
     cast-disks
     sound-requires
-    or-else-requires
     wrong-size-requires
+    or-else-requires
     or-else-requires-2
     returns)

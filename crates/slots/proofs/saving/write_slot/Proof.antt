@@ -44,7 +44,6 @@ loop-again c =
     (omega arith, omega arith, simp length-set (omega arith), zero-turn _ (l .slot) (c .before .before .before .before .write .result .length) (l .i) (omega arith) (omega arith) (l .inv .3))
 
 same-length : tie.Need-same-length Inv-loop μ-loop
-unfolding longestLabel
 same-length c = omega arith
 
 returns : tie.Need-returns Inv-loop μ-loop

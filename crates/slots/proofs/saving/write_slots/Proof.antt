@@ -28,19 +28,15 @@ unfolding ascending longestLabel
 loop-holds c = (omega arith, refl, refl)
 
 mul-from : tie.Need-mul-from Inv-loop μ-loop
-unfolding longestLabel
 mul-from c = search needs
 
 add-to : tie.Need-add-to Inv-loop μ-loop
-unfolding longestLabel
 add-to c = search needs
 
 sub-write-slot : tie.Need-sub-write-slot Inv-loop μ-loop
-unfolding longestLabel
 sub-write-slot c = search needs
 
 part-write-slot-start : tie.Need-part-write-slot-start Inv-loop μ-loop
-unfolding longestLabel
 part-write-slot-start c = search needs
 
 part-write-slot-end : tie.Need-part-write-slot-end Inv-loop μ-loop
