@@ -1,23 +1,21 @@
 -- From the calls' promises to demand 3. Assumes nothing.
-use mathlib.Core.Path.{_≡_, refl, sym, ap, _∙_, subst}
+use mathlib.Core.Path.{_≡_, refl, sym, ap, _∙_}
 use mathlib.Core.Logic.{_≢_, _⊎_, inl, inr}
 use mathlib.Core.List.{List, [], _∷_, _++_, nil≢cons, head-eq-of-cons-eq, tail-eq-of-cons-eq}
-use Prim.Native.Nat.{ℕ, _≤_}
-use lib.ListN.{length}
-use Rattle.sets.specs.Sets.{all}
-use Rattle.protocol.specs.declared.Power.the-variants.{Stopped}
+use Prim.Native.Nat.{ℕ}
+use Rattle.protocol.specs.declared.Call.the-variants.{Write}
 use Rattle.protocol.specs.declared.State.{State}
-use Rattle.protocol.specs.Geometry.{block}
-use Rattle.protocol.specs.Lists.{restartList}
-use Rattle.protocol.specs.Naming.{one}
-use Rattle.protocol.specs.Outcomes.{Outcome}
-use Rattle.protocol.specs.Calls.{formatOutcome, foundBy}
-use Rattle.protocol.specs.History.{Step, Cabinet, perform, outcomeOf, cabinetOf, ran}
-use Rattle.protocol.specs.Demand3.{CallIn, program}
+use Rattle.protocol.specs.Calls.{formatOutcome}
+use Rattle.protocol.specs.History.{Cabinet, perform, outcomeOf, cabinetOf, ran}
+use Rattle.protocol.specs.Reference.{carriedBy, afterWrites, started, recorded, recordedAll}
+use Rattle.protocol.specs.Demand3.{CallIn, program, result, Demand3}
+use Rattle.protocol.specs.Claims.{refusalOf, contentsLeft, Counting}
+use Rattle.protocol.proofs.Invariant.{result-is, reference-is}
 use Rattle.protocol.proofs.Demand3.{demand-3}
 use Rattle.protocol.proofs.ReadCalls.{reads-right}
+use Rattle.protocol.proofs.WritesCount.{writes-count}
 use Rattle.protocol.proofs.SoundLists.{soundness-kept}
-use Rattle.program.specs.Program.{Exchange, Returned, by-read, by-write, by-join, by-clean, by-restart, by-detach, by-attach, by-power-off, by-apply, Run, begun, followed, ExchangeIn, steps, Handed, yielded, RunsAreHistories, ProgramMeetsDemand3}
+use Rattle.program.specs.Program.{Exchange, Returned, by-read, by-write, by-join, by-clean, by-restart, by-detach, by-attach, by-power-off, by-apply, Run, begun, followed, ExchangeIn, steps, Handed, referenceBefore, reference, yielded, RunsAreHistories, ProgramMeetsDemand3}
 
 -- each promise is the protocol's step
 returned-is : {s : State} {area : List ℕ} {x : Exchange} → Returned s area x → yielded x ≡ outcomeOf (x .given) (record { state = s; area = area })
@@ -62,10 +60,10 @@ module _ {n b : ℕ} {lent : List ℕ} where
   format-done (begun p z) = sym (ap (λ o. o .answer .refusal) (p [])) ∙ z
   format-done (followed run r) = format-done run
 
-  cabinet-is : {calls : List Exchange} {s : State} {area : List ℕ} → Run n b lent calls s area → record { state = s; area = area } ≡ program n b lent (steps calls)
+  left-is : {calls : List Exchange} {s : State} {area : List ℕ} → Run n b lent calls s area → record { state = s; area = area } ≡ program n b lent (steps calls)
   unfolding ran
-  cabinet-is (begun p z) = ap cabinetOf (p [])
-  cabinet-is (followed {calls} {x = x} run r) = ap cabinetOf (returned-is r ∙ ap (outcomeOf (x .given)) (cabinet-is run)) ∙ sym (ran-last calls x _)
+  left-is (begun p z) = ap cabinetOf (p [])
+  left-is (followed {calls} {x = x} run r) = ap cabinetOf (returned-is r ∙ ap (outcomeOf (x .given)) (left-is run)) ∙ sym (ran-last calls x _)
 
   -- the calls before any call of a run are a run
   handed : {calls : List Exchange} {s : State} {area : List ℕ} → Run n b lent calls s area → (c : ExchangeIn calls) → Handed n b lent (c .before) (c .this)
@@ -76,33 +74,57 @@ module _ {n b : ℕ} {lent : List ℕ} where
       go earlier (inl (p, q)) = record { state = s; area = area; run = rw p at run; returned = rw q at r }
       go earlier (inr (later, p)) = earlier (record { before = c .before; this = c .this; after = later; here = p })
 
-  result-is : {calls : List Exchange} {s : State} {area : List ℕ} → Run n b lent calls s area → (c : ExchangeIn calls)
+  yielded-is : {calls : List Exchange} {s : State} {area : List ℕ} → Run n b lent calls s area → (c : ExchangeIn calls)
       → yielded (c .this) ≡ outcomeOf (c .this .given) (program n b lent (steps (c .before)))
-  result-is run c = let v = handed run c in returned-is (v .returned) ∙ ap (outcomeOf (c .this .given)) (cabinet-is (v .run))
+  yielded-is run c = let v = handed run c in returned-is (v .returned) ∙ ap (outcomeOf (c .this .given)) (left-is (v .run))
 
 pub runs-are-histories : RunsAreHistories
-runs-are-histories n b lent calls s area run = record { done = format-done run; cabinet = cabinet-is run; results = result-is run }
+runs-are-histories n b lent calls s area run = record { done = format-done run; cabinet = left-is run; results = yielded-is run }
 
 -- the protocol's call, the last of the list up to it
 abbrev callOf : {calls : List Exchange} (c : ExchangeIn calls) → CallIn (steps (c .before) ++ (c .this .given ∷ []))
 callOf c = record { before = steps (c .before); this = c .this .given; after = []; here = refl }
 
+module _ {n b : ℕ} {lent : List ℕ} {calls : List Exchange} {s : State} {area : List ℕ} (run : Run n b lent calls s area) (c : ExchangeIn calls) where
+  done : formatOutcome lent [] n b .answer .refusal ≡ 0
+  done = format-done run
+
+  demand : Demand3 n b lent (steps (c .before) ++ (c .this .given ∷ []))
+  demand = demand-3 n b lent done _
+
+  answer-is : c .this .answer ≡ result n b lent (callOf c) .answer
+  answer-is = ap (λ o. o .answer) (yielded-is run c)
+
+  -- a write, by what the reference's own cabinet makes of it
+  module _ (k budget : ℕ) (is : c .this .given .call ≡ Write k budget) where
+    abbrev bytes : List ℕ
+    bytes = c .this .given .bytes
+
+    abbrev output : List ℕ
+    output = c .this .given .output
+
+    abbrev cabinet : Cabinet
+    cabinet = recordedAll (steps (c .before)) (started n b) .cabinet
+
+    refusal-is : c .this .answer .refusal ≡ refusalOf cabinet k budget bytes output
+    unfolding perform
+    refusal-is = ap (λ o. o .answer .refusal) (yielded-is run c ∙ sym (result-is n b lent done (callOf c)) ∙ ap (λ call. perform call bytes output cabinet) is)
+
+    book-is : reference n b c ≡ contentsLeft cabinet k budget bytes output (referenceBefore n b c)
+    unfolding recorded
+    book-is = sym (reference-is n b lent done (callOf c)) ∙ ap (λ call. afterWrites (carriedBy call bytes cabinet) (referenceBefore n b c)) is
+
+    counting : Counting cabinet k budget bytes output (referenceBefore n b c)
+    counting = writes-count _ k budget _ _ _
+
 pub program-meets-demand-3 : ProgramMeetsDemand3
-program-meets-demand-3 n b lent calls s area run =
-    let done = format-done run in
-    record {
-      one-set = λ c budget is. subst (λ o. o .answer .refusal ≢ 14) (sym (result-is run c)) (demand-3 n b lent done _ .one-set (callOf c) budget is);
-      right = λ c budget is z.
-          let e = result-is run c in
-          let (g, runs, same) = demand-3 n b lent done _ .right (callOf c) budget is (sym (ap (λ o. o .answer .refusal) e) ∙ z) in
-          (g, ap (λ o. o .answer .state .power) e ∙ runs, λ d k m l. ap (λ o. block b (o .area) d k) e ∙ same d k m l);
-      finds = λ c budget is v off reach.
-          let e = cabinet-is (v .run) in
-          let (g, found, whole) = demand-3 n b lent done _ .finds (callOf c) budget is (ap (λ w. w .state .power) (sym e) ∙ off) (ap (λ w. w .state .online) (sym e) ∙ reach) in
-          (g, ap (λ w. foundBy (w .state)) e ∙ found, λ l. ap (λ o. o .answer .refusal) (result-is run c) ∙ whole (subst (λ w. length (restartList (w .state) g) ≤ budget) e l));
-      each-handed = handed run;
-      reads-right = λ c k is z.
-          let e = result-is run c in
-          ap (λ o. o .output) e ∙ reads-right n b lent done _ (callOf c) k is (sym (ap (λ o. o .answer .refusal) e) ∙ z);
-      stays-sound = λ c. subst (λ o. o .answer .refusal ≢ 1) (sym (result-is run c)) (soundness-kept .in-lists n b lent done _ (callOf c));
-    }
+program-meets-demand-3 n b lent calls s area run = record {
+  one-set = λ c budget is. rw (answer-is run c) (demand run c .one-set (callOf c) budget is);
+  right = λ c budget is. rw (answer-is run c, ap (λ o. o .area) (yielded-is run c)) (demand run c .right (callOf c) budget is);
+  finds = λ c budget is v. rw (answer-is run c, ap (λ w. w .state) (left-is (v .run))) (demand run c .finds (callOf c) budget is);
+  each-handed = handed run;
+  reads-right = λ c k is. rw (answer-is run c, ap (λ o. o .output) (yielded-is run c)) (reads-right n b lent (done run c) _ (callOf c) k is);
+  acknowledged = λ c k budget is. rw (refusal-is run c k budget is, book-is run c k budget is) (counting run c k budget is .acknowledged);
+  refused = λ c k budget is. rw (refusal-is run c k budget is, book-is run c k budget is) (counting run c k budget is .refused);
+  stays-sound = λ c. rw (answer-is run c) (soundness-kept .in-lists n b lent (done run c) _ (callOf c));
+}

@@ -17,7 +17,7 @@ use Rattle.protocol.specs.Naming.{one}
 use Rattle.protocol.specs.Outcomes.{Outcome}
 use Rattle.protocol.specs.Calls.{formatOutcome, readOutcome, writeOutcome, joinOutcome, cleanOutcome, restartOutcome, detachOutcome, attachOutcome, powerOffOutcome, foundBy}
 use Rattle.protocol.specs.History.{Step, perform, outcomeOf}
-use Rattle.protocol.specs.Reference.{contentsAfter}
+use Rattle.protocol.specs.Reference.{Contents, replaced, contentsAfter}
 use Rattle.protocol.specs.Demand3.{program}
 
 -- ---- runs of the program's calls
@@ -91,8 +91,11 @@ pub record Handed (n b : ℕ) (lent : List ℕ) (before : List Exchange) (this :
   pub run : Run n b lent before state area
   pub returned : Returned state area this
 
--- what the book, the reference contents, has after it
-abbrev pub reference : (n b : ℕ) {calls : List Exchange} → ExchangeIn calls → ℕ → List ℕ
+-- what the book, the reference contents, has before it and after it
+abbrev pub referenceBefore : (n b : ℕ) {calls : List Exchange} → ExchangeIn calls → Contents
+referenceBefore n b c = contentsAfter n b (steps (c .before))
+
+abbrev pub reference : (n b : ℕ) {calls : List Exchange} → ExchangeIn calls → Contents
 reference n b c = contentsAfter n b (steps (c .before) ++ (c .this .given ∷ []))
 
 -- ---- a run is a history of the protocol
@@ -128,6 +131,11 @@ pub record MeetsDemand3 (n b : ℕ) (lent : List ℕ) (calls : List Exchange) : 
   pub each-handed : (c : ExchangeIn calls) → Handed n b lent (c .before) (c .this)
   -- Beside demand 3, what callers rely on: a read that gave 0 filled its output with the block of the book,
   pub reads-right : (c : ExchangeIn calls) (k : ℕ) → c .this .given .call ≡ Read k → c .this .answer .refusal ≡ 0 → c .this .output ≡ reference n b c k
+  -- "a write that gives 0 counts", one that is refused does not (15 is the power's, and tells neither),
+  pub acknowledged : (c : ExchangeIn calls) (k budget : ℕ) → c .this .given .call ≡ Write k budget → c .this .answer .refusal ≡ 0
+      → reference n b c ≡ replaced k (c .this .given .bytes) (referenceBefore n b c)
+  pub refused : (c : ExchangeIn calls) (k budget : ℕ) → c .this .given .call ≡ Write k budget
+      → c .this .answer .refusal ≢ 0 → c .this .answer .refusal ≢ 15 → reference n b c ≡ referenceBefore n b c
   -- and no call gave 1.
   pub stays-sound : (c : ExchangeIn calls) → c .this .answer .refusal ≢ 1
 
