@@ -2,6 +2,7 @@
 mod answer;
 mod geometry;
 mod power;
+mod soundness;
 
 pub use answer::without_stores;
 pub use answer::zero;
@@ -11,3 +12,4 @@ pub use power::current;
 pub use power::is_running;
 pub use power::live;
 pub use power::source;
+pub use soundness::sound;

@@ -1,5 +1,4 @@
 -- `area::load` meets its contract. Assumes nothing.
-use native.Mathlib.Omega.{arith}
 use borrow.Author.Needs.{needs}
 use Rattle.area.proofs.Parts.{disk-loads}
 use Rattle.area.proofs.load.Statement.{statement}

@@ -1,5 +1,4 @@
 -- `area::store` meets its contract. Assumes nothing.
-use native.Mathlib.Omega.{arith}
 use borrow.Author.Needs.{needs}
 use Rattle.area.proofs.Parts.{disk-stores}
 use Rattle.area.proofs.store.Statement.{statement}

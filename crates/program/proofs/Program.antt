@@ -1,0 +1,130 @@
+-- From the calls' promises to demand 3. Assumes nothing.
+use mathlib.Core.Path.{_≡_, refl, sym, ap, _∙_}
+use mathlib.Core.Logic.{_≢_, _⊎_, inl, inr}
+use mathlib.Core.List.{List, [], _∷_, _++_, nil≢cons, head-eq-of-cons-eq, tail-eq-of-cons-eq}
+use Prim.Native.Nat.{ℕ}
+use Rattle.protocol.specs.declared.Call.the-variants.{Write}
+use Rattle.protocol.specs.declared.State.{State}
+use Rattle.protocol.specs.Calls.{formatOutcome}
+use Rattle.protocol.specs.History.{Cabinet, perform, outcomeOf, cabinetOf, ran}
+use Rattle.protocol.specs.Reference.{carriedBy, afterWrites, started, recorded, recordedAll}
+use Rattle.protocol.specs.Demand3.{CallIn, program, result, Demand3}
+use Rattle.protocol.specs.Claims.{refusalOf, contentsLeft, Counting}
+use Rattle.protocol.proofs.Invariant.{result-is, reference-is}
+use Rattle.protocol.proofs.Demand3.{demand-3}
+use Rattle.protocol.proofs.ReadCalls.{reads-right}
+use Rattle.protocol.proofs.WritesCount.{writes-count}
+use Rattle.protocol.proofs.SoundLists.{soundness-kept}
+use Rattle.program.specs.Program.{Exchange, Returned, by-read, by-write, by-join, by-clean, by-restart, by-detach, by-attach, by-power-off, by-apply, Run, begun, followed, ExchangeIn, steps, Handed, referenceBefore, reference, yielded, RunsAreHistories, ProgramMeetsDemand3}
+
+-- each promise is the protocol's step
+returned-is : {s : State} {area : List ℕ} {x : Exchange} → Returned s area x → yielded x ≡ outcomeOf (x .given) (record { state = s; area = area })
+unfolding perform
+returned-is (by-read p) = p
+returned-is (by-write {output = o} p) = p o
+returned-is (by-join {output = o} p) = p o
+returned-is {area = a} (by-clean {output = o} p) = p a o
+returned-is (by-restart {output = o} p) = p o
+returned-is {area = a} (by-detach {output = o} p) = p a o
+returned-is {area = a} (by-attach {output = o} p) = p a o
+returned-is {area = a} (by-power-off {output = o} p) = p a o
+returned-is (by-apply p) = p
+
+-- one call more
+ran-last : (calls : List Exchange) (x : Exchange) (c : Cabinet) → ran (steps (calls ++ (x ∷ []))) c ≡ cabinetOf (outcomeOf (x .given) (ran (steps calls) c))
+unfolding ran
+ran-last [] x c = refl
+ran-last (y ∷ calls) x c = ran-last calls x (cabinetOf (outcomeOf (y .given) c))
+
+-- what stands in a list that is one longer is its last, or stood in it before
+module _ {A : Type 0} (x y : A) where
+  not-empty : (ys zs : List A) → [] ≢ ys ++ (y ∷ zs)
+  not-empty [] zs = nil≢cons
+  not-empty (v ∷ ys) zs = nil≢cons
+
+  abbrev LastOrEarlier : List A → List A → Type 0
+  LastOrEarlier xs ys = ((xs ≡ ys) × (x ≡ y)) ⊎ ((later : List A) × (xs ≡ ys ++ (y ∷ later)))
+
+  last-or-earlier : (xs ys zs : List A) → xs ++ (x ∷ []) ≡ ys ++ (y ∷ zs) → LastOrEarlier xs ys
+  last-or-earlier [] [] zs e = inl (refl, head-eq-of-cons-eq e)
+  last-or-earlier [] (v ∷ ys) zs e = absurd (not-empty ys zs (tail-eq-of-cons-eq e))
+  last-or-earlier (u ∷ xs) [] zs e = inr (xs, cc)
+  last-or-earlier (u ∷ xs) (v ∷ ys) zs e = go (last-or-earlier xs ys zs (tail-eq-of-cons-eq e))
+    where
+      go : LastOrEarlier xs ys → LastOrEarlier (u ∷ xs) (v ∷ ys)
+      go (inl (p, q)) = inl (cc, q)
+      go (inr (later, p)) = inr (later, cc)
+
+module _ {n b : ℕ} {lent : List ℕ} where
+  format-done : {calls : List Exchange} {s : State} {area : List ℕ} → Run n b lent calls s area → formatOutcome lent [] n b .answer .refusal ≡ 0
+  format-done (begun p z) = sym (ap (λ o. o .answer .refusal) (p [])) ∙ z
+  format-done (followed run r) = format-done run
+
+  left-is : {calls : List Exchange} {s : State} {area : List ℕ} → Run n b lent calls s area → record { state = s; area = area } ≡ program n b lent (steps calls)
+  unfolding ran
+  left-is (begun p z) = ap cabinetOf (p [])
+  left-is (followed {calls} {x = x} run r) = ap cabinetOf (returned-is r ∙ ap (outcomeOf (x .given)) (left-is run)) ∙ sym (ran-last calls x _)
+
+  -- the calls before any call of a run are a run
+  handed : {calls : List Exchange} {s : State} {area : List ℕ} → Run n b lent calls s area → (c : ExchangeIn calls) → Handed n b lent (c .before) (c .this)
+  handed (begun p z) c = absurd (not-empty (c .this) (c .this) (c .before) (c .after) (c .here))
+  handed (followed {calls} {s} {area} {x} run r) c = go (λ d. handed run d) (last-or-earlier x (c .this) calls (c .before) (c .after) (c .here))
+    where
+      go : ((d : ExchangeIn calls) → Handed n b lent (d .before) (d .this)) → LastOrEarlier x (c .this) calls (c .before) → Handed n b lent (c .before) (c .this)
+      go earlier (inl (p, q)) = record { state = s; area = area; run = rw p at run; returned = rw q at r }
+      go earlier (inr (later, p)) = earlier (record { before = c .before; this = c .this; after = later; here = p })
+
+  yielded-is : {calls : List Exchange} {s : State} {area : List ℕ} → Run n b lent calls s area → (c : ExchangeIn calls)
+      → yielded (c .this) ≡ outcomeOf (c .this .given) (program n b lent (steps (c .before)))
+  yielded-is run c = let v = handed run c in returned-is (v .returned) ∙ ap (outcomeOf (c .this .given)) (left-is (v .run))
+
+pub runs-are-histories : RunsAreHistories
+runs-are-histories n b lent calls s area run = record { done = format-done run; cabinet = left-is run; results = yielded-is run }
+
+-- the protocol's call, the last of the list up to it
+abbrev callOf : {calls : List Exchange} (c : ExchangeIn calls) → CallIn (steps (c .before) ++ (c .this .given ∷ []))
+callOf c = record { before = steps (c .before); this = c .this .given; after = []; here = refl }
+
+module _ {n b : ℕ} {lent : List ℕ} {calls : List Exchange} {s : State} {area : List ℕ} (run : Run n b lent calls s area) (c : ExchangeIn calls) where
+  done : formatOutcome lent [] n b .answer .refusal ≡ 0
+  done = format-done run
+
+  demand : Demand3 n b lent (steps (c .before) ++ (c .this .given ∷ []))
+  demand = demand-3 n b lent done _
+
+  answer-is : c .this .answer ≡ result n b lent (callOf c) .answer
+  answer-is = ap (λ o. o .answer) (yielded-is run c)
+
+  -- a write, by what the reference's own cabinet makes of it
+  module _ (k budget : ℕ) (is : c .this .given .call ≡ Write k budget) where
+    abbrev bytes : List ℕ
+    bytes = c .this .given .bytes
+
+    abbrev output : List ℕ
+    output = c .this .given .output
+
+    abbrev cabinet : Cabinet
+    cabinet = recordedAll (steps (c .before)) (started n b) .cabinet
+
+    refusal-is : c .this .answer .refusal ≡ refusalOf cabinet k budget bytes output
+    unfolding perform
+    refusal-is = ap (λ o. o .answer .refusal) (yielded-is run c ∙ sym (result-is n b lent done (callOf c)) ∙ ap (λ call. perform call bytes output cabinet) is)
+
+    book-is : reference n b c ≡ contentsLeft cabinet k budget bytes output (referenceBefore n b c)
+    unfolding recorded
+    book-is = sym (reference-is n b lent done (callOf c)) ∙ ap (λ call. afterWrites (carriedBy call bytes cabinet) (referenceBefore n b c)) is
+
+    counting : Counting cabinet k budget bytes output (referenceBefore n b c)
+    counting = writes-count _ k budget _ _ _
+
+pub program-meets-demand-3 : ProgramMeetsDemand3
+program-meets-demand-3 n b lent calls s area run = record {
+  one-set = λ c budget is. rw (answer-is run c) (demand run c .one-set (callOf c) budget is);
+  right = λ c budget is. rw (answer-is run c, ap (λ o. o .area) (yielded-is run c)) (demand run c .right (callOf c) budget is);
+  finds = λ c budget is v. rw (answer-is run c, ap (λ w. w .state) (left-is (v .run))) (demand run c .finds (callOf c) budget is);
+  each-handed = handed run;
+  reads-right = λ c k is. rw (answer-is run c, ap (λ o. o .output) (yielded-is run c)) (reads-right n b lent (done run c) _ (callOf c) k is);
+  acknowledged = λ c k budget is. rw (refusal-is run c k budget is, book-is run c k budget is) (counting run c k budget is .acknowledged);
+  refused = λ c k budget is. rw (refusal-is run c k budget is, book-is run c k budget is) (counting run c k budget is .refused);
+  stays-sound = λ c. rw (answer-is run c) (soundness-kept .in-lists n b lent (done run c) _ (callOf c));
+}

@@ -1,0 +1,1 @@
+// From the calls' promises to demand 3: specs/Program.antt.
