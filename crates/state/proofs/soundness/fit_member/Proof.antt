@@ -9,7 +9,7 @@ label-at-requires c κs = search needs
 
 returns : tie.Need-returns
 unfolding fitMember
-returns c = cc
+returns c = rw (c .before .before .label-at .ensures)
 
 pub fit-member-spec : {M : Type 1} → statement M
 fit-member-spec = tie.close (tie.spec label-at-requires returns)

@@ -12,7 +12,7 @@ has-requires c κs = search needs
 
 returns : tie.Need-returns
 unfolding fitSet
-returns c = cc
+returns c = rw (c .before .below .ensures, c .has .ensures)
 
 pub fit-set-spec : {M : Type 1} → statement M
 fit-set-spec = tie.close (tie.spec below-requires has-requires returns)

@@ -1,6 +1,5 @@
 -- `state::soundness::label_at` meets its contract. Assumes nothing.
 use mathlib.Core.Path.{sym}
-use native.Mathlib.Omega.{arith}
 use lib.ListN.{List·getD-eq-default}
 use borrow.Author.Needs.{needs}
 use Rattle.state.proofs.soundness.label_at.Statement.{statement}
