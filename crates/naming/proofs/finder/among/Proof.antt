@@ -42,7 +42,16 @@ loop-less c = omega arith
 
 loop-again : tie.Need-loop-again Inv-loop μ-loop
 unfolding among
-loop-again c = (omega arith, rw add-one (cc))
+loop-again c = (
+  omega arith,
+  rw (
+    add-one,
+    c .another .ensures,
+    c .before .candidate .ensures,
+    c .before .before .tried .ensures,
+    c .before .before .before .before .before .loop .inv .1,
+  ),
+)
 
 returns : tie.Need-returns Inv-loop μ-loop
 returns c = let e : c .before .loop .d ≡ c .before .before .args .disks = omega arith in rw e at (c .before .loop .inv .1)

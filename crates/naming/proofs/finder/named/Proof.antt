@@ -31,7 +31,16 @@ last several = refl
 
 returns : tie.Need-returns
 unfolding find decide
-returns c = rw (← finds-named _ _ _ (c .before .before .before .before .before .pre .1), last) (cc)
+returns c =
+    rw (
+      ← finds-named _ _ _ (c .before .before .before .before .before .pre .1),
+      last,
+      c .or-later2 .ensures,
+      c .before .or-later .ensures,
+      c .before .before .among3 .ensures,
+      c .before .before .before .among2 .ensures,
+      c .before .before .before .before .among .ensures,
+    )
 
 pub named-spec : {M : Type 1} → statement M
 named-spec =

@@ -24,7 +24,13 @@ fit-power-requires c κs = search needs
 
 returns : tie.Need-returns
 unfolding sound
-returns c = rw (c .before .before .before .in-range .ensures, c .before .before .below .ensures, c .before .fit-labels .ensures, c .fit-power .ensures)
+returns c =
+    rw (
+      c .before .before .before .in-range .ensures,
+      c .before .before .below .ensures,
+      c .before .fit-labels .ensures,
+      c .fit-power .ensures,
+    )
 
 pub sound-spec : {M : Type 1} → statement M
 sound-spec =
