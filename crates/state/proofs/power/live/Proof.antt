@@ -10,7 +10,7 @@ intersection-requires : tie.Need-intersection-requires
 intersection-requires c κs = search needs
 
 returns : tie.Need-returns
-returns c = rw (c .intersection .ensures, c .before .current .ensures)
+returns c = cc
 
 pub live-spec : {M : Type 1} → statement M
 live-spec = tie.close (tie.spec current-requires intersection-requires returns)
