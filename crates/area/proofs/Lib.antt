@@ -1,0 +1,2 @@
+-- The laws of parts of the area.
+pub mod Parts

@@ -1,0 +1,72 @@
+// Blocks in the disk area: the only code that computes where a block stands.
+ghost use mathlib.Core.Path.{_≡_};
+ghost use Prim.Native.Nat.{_*_, _≤_, _<_};
+ghost use lib.ListN.{length, take, drop, replicate};
+ghost use Rattle.label.specs.Writing.{splice};
+ghost use Rattle.protocol.specs.Geometry.{mostDisks, mostBlocks, blockSize, block, withBlock};
+ghost use Rattle.area.specs.Parts.{InArea, InPart};
+use protocol::geometry::BLOCK_SIZE;
+
+// Where disk d's part of the area starts. It ends where the next disk's starts.
+fn start(blocks: usize, d: usize) -> usize
+    requires { ⌜ (blocks ≤ mostBlocks) × (d ≤ mostDisks) ⌝ }
+    ensures { λ r. ⌜ r ≡ d * blocks * blockSize ⌝ }
+{
+    d * blocks * BLOCK_SIZE
+}
+
+// Block k of one disk's part, to the output.
+fn load_block(part: &[u8], k: usize, output: &mut [u8])
+    requires { ⌜ InPart k (now part) × (length (now output) ≡ blockSize) ⌝ }
+    ensures { λ _. ⌜ now (output .exit) ≡ take blockSize (drop (k * blockSize) (now (part .entry))) ⌝ }
+{
+    let at = k * BLOCK_SIZE;
+    let mut i = 0;
+    while i < BLOCK_SIZE {
+        output[i] = part[at + i];
+        i += 1;
+    }
+}
+
+// The bytes as block k of one disk's part.
+fn store_block(part: &mut [u8], k: usize, bytes: &[u8])
+    requires { ⌜ InPart k (now part) × (length (now bytes) ≡ blockSize) ⌝ }
+    ensures { λ _. ⌜ now (part .exit) ≡ splice (k * blockSize) (now (bytes .entry)) (now (part .entry)) ⌝ }
+{
+    let at = k * BLOCK_SIZE;
+    let mut i = 0;
+    while i < BLOCK_SIZE {
+        part[at + i] = bytes[i];
+        i += 1;
+    }
+}
+
+// Block k of disk d, to the output. "the work on one disk gets only that disk's part of the area"
+pub fn load(area: &[u8], blocks: usize, d: usize, k: usize, output: &mut [u8])
+    requires { ⌜ InArea blocks d k (now area) × (length (now output) ≡ blockSize) ⌝ }
+    ensures { λ _. ⌜ now (output .exit) ≡ block blocks (now (area .entry)) d k ⌝ }
+{
+    let from = start(blocks, d);
+    let to = start(blocks, d + 1);
+    load_block(&area[from..to], k, output);
+}
+
+// The bytes as block k of disk d.
+pub fn store(area: &mut [u8], blocks: usize, d: usize, k: usize, bytes: &[u8])
+    requires { ⌜ InArea blocks d k (now area) × (length (now bytes) ≡ blockSize) ⌝ }
+    ensures { λ _. ⌜ now (area .exit) ≡ withBlock blocks (now (area .entry)) d k (now (bytes .entry)) ⌝ }
+{
+    let from = start(blocks, d);
+    let to = start(blocks, d + 1);
+    store_block(&mut area[from..to], k, bytes);
+}
+
+pub fn clear(area: &mut [u8])
+    ensures { λ _. ⌜ now (area .exit) ≡ replicate (length (now (area .entry))) 0 ⌝ }
+{
+    let mut i = 0;
+    while i < area.len() {
+        area[i] = 0;
+        i += 1;
+    }
+}

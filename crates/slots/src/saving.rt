@@ -1,0 +1,77 @@
+// Saving a state's labels to slots.
+ghost use mathlib.Core.Path.{_≡_};
+ghost use mathlib.Core.Bool.{not};
+ghost use mathlib.Core.List.{List, [], _∷_};
+ghost use Prim.Native.Nat.{ℕ, _*_};
+ghost use lib.Dec.{eqb};
+ghost use lib.ListN.{length};
+ghost use Rattle.label.specs.Form.{narrow};
+ghost use Rattle.label.specs.Refusals.{firstOf};
+ghost use Rattle.label.specs.Writing.{writeRefusal};
+ghost use Rattle.protocol.specs.Loops.{ascending};
+ghost use Rattle.protocol.specs.States.{labelAt};
+ghost use Rattle.protocol.specs.Soundness.{Sound};
+ghost use Rattle.protocol.specs.Calls.{unsound};
+ghost use Rattle.protocol.specs.Saving.{slotSize, slotBytes, saveOutcome};
+use crate::form::SLOT_SIZE;
+use crate::form::wrong_size;
+use label::Label;
+use label::refusal::or_else;
+use protocol::Answer;
+use protocol::State;
+use protocol::refusal::BUFFER_LENGTH;
+use protocol::refusal::UNSOUND;
+use state::sound;
+use state::without_stores;
+
+// The label, and "the rest of the slot zero".
+fn write_slot(slot: &mut [u8], d: usize, disks: usize, label: Label)
+    requires { ⌜ (length (now slot) ≡ slotSize) × (writeRefusal narrow d disks label slotSize ≡ 0) ⌝ }
+    ensures { λ _. ⌜ now (slot .exit) ≡ slotBytes d disks label ⌝ }
+{
+    let written = label::write(slot, d, disks, label);
+    let mut i = written.length;
+    while i < SLOT_SIZE {
+        slot[i] = 0;
+        i += 1;
+    }
+}
+
+fn write_slots(s: State, slots: &mut [u8])
+    requires { ⌜ Sound s × (length (now slots) ≡ slotSize * s .disks) ⌝ }
+    ensures { λ _. ⌜ now (slots .exit) ≡ ascending (s .disks) (λ d. slotBytes d (s .disks) (labelAt (s .labels) d)) ⌝ }
+{
+    let disks = s.disks as usize;
+    let labels = s.labels;
+    let mut d = 0;
+    while d < disks {
+        let from = SLOT_SIZE * d;
+        let to = from + SLOT_SIZE;
+        write_slot(&mut slots[from..to], d, disks, labels[d]);
+        d += 1;
+    }
+}
+
+// "Every call that takes a state: 1, the state is not sound." "Save: 2, the slot buffer is not 5 × n bytes."
+fn save_refusal(s: State, size: usize) -> u8
+    ensures { λ r. ⌜ r ≡ firstOf (unsound s ∷ (2, not (eqb size (slotSize * s .disks))) ∷ []) ⌝ }
+{
+    let disks = s.disks as usize;
+    let fit = sound(s);
+    let wrong = wrong_size(disks, size);
+    let first = or_else(0, !fit, UNSOUND);
+    or_else(first, wrong, BUFFER_LENGTH)
+}
+
+// The slot buffer is its output; it has no disk area, so it leaves any.
+pub fn save(s: State, slots: &mut [u8]) -> Answer
+    ensures { λ r. ⌜ ((area : List ℕ) → record { answer = r; area = area; output = now (slots .exit) } ≡ saveOutcome s area (now (slots .entry))) ⌝ }
+{
+    let refusal = save_refusal(s, slots.len());
+    if refusal == 0 {
+        write_slots(s, slots);
+        without_stores(s, 0)
+    } else {
+        without_stores(s, refusal)
+    }
+}
