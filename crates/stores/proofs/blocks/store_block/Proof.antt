@@ -1,0 +1,36 @@
+-- `stores::blocks::store_block` meets its contract. Assumes nothing.
+use native.Mathlib.Omega.{arith}
+use borrow.Author.Needs.{needs}
+use Rattle.sets.proofs.Tests.{or-parts, positive}
+use Rattle.stores.proofs.Runs.{none-made}
+use Rattle.stores.proofs.Copying.{in-area, block-made}
+use Rattle.stores.proofs.blocks.store_block.Statement.{statement}
+use Rattle.stores.proofs.blocks.store_block.Tie as tie
+
+has-requires : tie.Need-has-requires
+has-requires c κs = search needs
+
+returns : tie.Need-returns
+returns c = none-made _ _ _ _ _ (rw (c .before .has .ensures) at (c .if1 .taken))
+
+store-requires : tie.Need-store-requires
+store-requires c κs =
+    let a = c .before .before .before .before .before .before .args in
+    let pre = c .before .before .before .before .before .before .pre in
+    (in-area (a .size .disks) (a .size .blocks) (a .d) (a .k) (a .area .now) (pre .0) (pre .1) (pre .2), pre .3)
+
+sub-run : tie.Need-sub-run
+sub-run c = omega (arith, positive (c .before .before .before .before .before .before .before .before .before .before .args .run .left) (or-parts _ _ (c .before .before .before .before .before .if1 .left) .0))
+
+same-length : tie.Need-same-length
+same-length c = search needs
+
+returns-2 : tie.Need-returns-2
+returns-2 c =
+    let a = c .before .before .before .before .before .before .before .before .before .before .args in
+    rw (c .before .before .before .store .ensures)
+    (block-made (a .size .blocks) (a .set) (a .d) (a .k) (a .bytes .now) (a .run) (a .area .now) (rw (c .before .before .before .before .before .before .has .ensures) at (c .before .before .before .before .before .if1 .left)))
+
+pub store-block-spec : {M : Type 1} → statement M
+store-block-spec =
+    tie.close (tie.spec has-requires returns store-requires sub-run same-length returns-2)

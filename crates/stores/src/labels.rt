@@ -1,0 +1,69 @@
+// Stores on labels. They touch no block, so their promises hold for every disk area.
+ghost use mathlib.Core.Path.{_≡_};
+ghost use mathlib.Core.List.{List, [], _∷_};
+ghost use Prim.Native.Nat.{ℕ, _≤_, _<_};
+ghost use Rattle.protocol.specs.Loops.{forEach};
+ghost use Rattle.stores.specs.Runs.{progress, steps, oneIf};
+ghost use Rattle.stores.specs.Changes.{FitChange, changed, changeOn};
+use crate::Change;
+use crate::Run;
+use label::Label;
+use sets::DISKS;
+use sets::Mask;
+
+fn changed(l: Label, change: Change) -> Label
+    requires { ⌜ FitChange change ⌝ }
+    ensures { λ r. ⌜ r ≡ changed change l ⌝ }
+{
+    match change {
+        Change::Mark(r) => Label {
+            committed: l.committed,
+            tentative: l.tentative,
+            dirty: sets::union(l.dirty, sets::singleton(r)),
+        },
+        Change::Clear(r) => Label {
+            committed: l.committed,
+            tentative: l.tentative,
+            dirty: sets::difference(l.dirty, sets::singleton(r)),
+        },
+        Change::Propose(set) => Label {
+            committed: l.committed,
+            tentative: set,
+            dirty: l.dirty,
+        },
+        Change::Commit(set) => Label {
+            committed: set,
+            tentative: 0,
+            dirty: l.dirty,
+        },
+    }
+}
+
+// The store on disk d, if the set has it and the power allows one more.
+fn store_label(run: Run, set: Mask, d: usize, change: Change) -> Run
+    requires { do ⌜ (d < (← ⟦DISKS⟧)) × FitChange change ⌝ }
+    ensures { λ r. ⌜ ((b : ℕ) (area : List ℕ) → progress r area ≡ steps b (oneIf set d (changeOn change d)) (progress run area)) ⌝ }
+{
+    if (run.left == 0) | !sets::has(set, d) {
+        return run;
+    }
+    let mut run = run;
+    let l = changed(run.labels[d], change);
+    run.labels[d] = l;
+    run.left -= 1;
+    run
+}
+
+// The store on each disk of the set below n, ascending.
+pub fn store_labels(run: Run, n: usize, set: Mask, change: Change) -> Run
+    requires { do ⌜ (n ≤ (← ⟦DISKS⟧)) × FitChange change ⌝ }
+    ensures { λ r. ⌜ ((b : ℕ) (area : List ℕ) → progress r area ≡ steps b (forEach n set (λ d. changeOn change d ∷ [])) (progress run area)) ⌝ }
+{
+    let mut run = run;
+    let mut d = 0;
+    while d < n {
+        run = store_label(run, set, d, change);
+        d += 1;
+    }
+    run
+}
