@@ -1,4 +1,4 @@
--- `state::soundness::each_fit` meets its contract. Assumes nothing.
+-- `soundness::each_fit` meets its contract. Assumes nothing.
 use mathlib.Core.Path.{_≡_, refl}
 use Prim.Native.Nat.{_-_, _≤_}
 use native.Mathlib.Numerals.{add-one}
@@ -7,8 +7,8 @@ use borrow.Author.Needs.{needs}
 use Rattle.protocol.specs.Loops.{allBelow}
 use Rattle.protocol.specs.States.{labelAt}
 use Rattle.protocol.specs.Soundness.{fitLabel}
-use Rattle.state.proofs.soundness.each_fit.Statement.{statement}
-use Rattle.state.proofs.soundness.each_fit.Tie as tie
+use Rattle.soundness.proofs.each_fit.Statement.{statement}
+use Rattle.soundness.proofs.each_fit.Tie as tie
 
 abbrev Inv-loop : tie.InvT-loop
 Inv-loop n b labels fit₀ d₀ fit d = (d ≤ n) × (fit ≡ allBelow d (λ d. fitLabel n b d (labelAt labels d)))

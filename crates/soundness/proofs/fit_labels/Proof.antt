@@ -1,8 +1,8 @@
--- `state::soundness::fit_labels` meets its contract. Assumes nothing.
+-- `soundness::fit_labels` meets its contract. Assumes nothing.
 use borrow.Author.Needs.{needs}
 use Rattle.protocol.specs.Soundness.{fitLabels}
-use Rattle.state.proofs.soundness.fit_labels.Statement.{statement}
-use Rattle.state.proofs.soundness.fit_labels.Tie as tie
+use Rattle.soundness.proofs.fit_labels.Statement.{statement}
+use Rattle.soundness.proofs.fit_labels.Tie as tie
 
 each-fit-requires : tie.Need-each-fit-requires
 each-fit-requires c κs = search needs

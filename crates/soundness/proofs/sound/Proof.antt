@@ -1,8 +1,8 @@
--- `state::soundness::sound` meets its contract. Assumes nothing.
+-- `soundness::sound` meets its contract. Assumes nothing.
 use borrow.Author.Needs.{needs}
 use Rattle.protocol.specs.Soundness.{sound}
-use Rattle.state.proofs.soundness.sound.Statement.{statement}
-use Rattle.state.proofs.soundness.sound.Tie as tie
+use Rattle.soundness.proofs.sound.Statement.{statement}
+use Rattle.soundness.proofs.sound.Tie as tie
 
 cast-n : tie.Need-cast-n
 cast-n c = search needs

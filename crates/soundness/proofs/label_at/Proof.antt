@@ -1,9 +1,9 @@
--- `state::soundness::label_at` meets its contract. Assumes nothing.
+-- `soundness::label_at` meets its contract. Assumes nothing.
 use mathlib.Core.Path.{sym}
 use lib.ListN.{List·getD-eq-default}
 use borrow.Author.Needs.{needs}
-use Rattle.state.proofs.soundness.label_at.Statement.{statement}
-use Rattle.state.proofs.soundness.label_at.Tie as tie
+use Rattle.soundness.proofs.label_at.Statement.{statement}
+use Rattle.soundness.proofs.label_at.Tie as tie
 
 mul-result : tie.Need-mul-result
 mul-result c = search needs

@@ -1,8 +1,8 @@
--- `state::soundness::in_range` meets its contract. Assumes nothing.
+-- `soundness::in_range` meets its contract. Assumes nothing.
 use mathlib.Core.Path.{refl}
 use Rattle.protocol.specs.Soundness.{inRange}
-use Rattle.state.proofs.soundness.in_range.Statement.{statement}
-use Rattle.state.proofs.soundness.in_range.Tie as tie
+use Rattle.soundness.proofs.in_range.Statement.{statement}
+use Rattle.soundness.proofs.in_range.Tie as tie
 
 returns : tie.Need-returns
 unfolding inRange

@@ -1,8 +1,8 @@
--- `state::soundness::is_blank` meets its contract. Assumes nothing.
+-- `soundness::is_blank` meets its contract. Assumes nothing.
 use mathlib.Core.Path.{refl}
 use Rattle.protocol.specs.Soundness.{isBlank}
-use Rattle.state.proofs.soundness.is_blank.Statement.{statement}
-use Rattle.state.proofs.soundness.is_blank.Tie as tie
+use Rattle.soundness.proofs.is_blank.Statement.{statement}
+use Rattle.soundness.proofs.is_blank.Tie as tie
 
 returns : tie.Need-returns
 unfolding isBlank

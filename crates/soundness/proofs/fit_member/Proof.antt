@@ -1,8 +1,8 @@
--- `state::soundness::fit_member` meets its contract. Assumes nothing.
+-- `soundness::fit_member` meets its contract. Assumes nothing.
 use borrow.Author.Needs.{needs}
 use Rattle.protocol.specs.Soundness.{fitMember}
-use Rattle.state.proofs.soundness.fit_member.Statement.{statement}
-use Rattle.state.proofs.soundness.fit_member.Tie as tie
+use Rattle.soundness.proofs.fit_member.Statement.{statement}
+use Rattle.soundness.proofs.fit_member.Tie as tie
 
 label-at-requires : tie.Need-label-at-requires
 label-at-requires c κs = search needs

@@ -1,8 +1,8 @@
--- `state::soundness::fit_label` meets its contract. Assumes nothing.
+-- `soundness::fit_label` meets its contract. Assumes nothing.
 use borrow.Author.Needs.{needs}
 use Rattle.protocol.specs.Soundness.{fitLabel}
-use Rattle.state.proofs.soundness.fit_label.Statement.{statement}
-use Rattle.state.proofs.soundness.fit_label.Tie as tie
+use Rattle.soundness.proofs.fit_label.Statement.{statement}
+use Rattle.soundness.proofs.fit_label.Tie as tie
 
 fit-set-requires : tie.Need-fit-set-requires
 fit-set-requires c κs = search needs

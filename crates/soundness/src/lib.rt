@@ -7,13 +7,13 @@ ghost use Rattle.protocol.specs.Geometry.{mostDisks};
 ghost use Rattle.protocol.specs.Loops.{allBelow};
 ghost use Rattle.protocol.specs.States.{labelAt};
 ghost use Rattle.protocol.specs.Soundness.{inRange, fitSet, fitLabel, isBlank, fitLabels, fitMember, fitPower, sound};
-use crate::geometry::regions;
 use label::Label;
 use protocol::Power;
 use protocol::State;
 use protocol::geometry::MOST_BLOCKS;
 use sets::DISKS;
 use sets::Mask;
+use state::regions;
 
 // The label of a disk, all zero past the end: an unsound state may count more disks than the array has.
 fn label_at(labels: [Label; DISKS], d: usize) -> Label

@@ -1,4 +1,4 @@
--- `state::soundness::fit_members` meets its contract. Assumes nothing.
+-- `soundness::fit_members` meets its contract. Assumes nothing.
 use mathlib.Core.Path.{_≡_, refl}
 use mathlib.Core.Bool.{not, _||_}
 use Prim.Native.Nat.{_-_, _≤_}
@@ -8,8 +8,8 @@ use borrow.Author.Needs.{needs}
 use Rattle.sets.specs.Sets.{has}
 use Rattle.protocol.specs.Loops.{allBelow}
 use Rattle.protocol.specs.Soundness.{fitMember}
-use Rattle.state.proofs.soundness.fit_members.Statement.{statement}
-use Rattle.state.proofs.soundness.fit_members.Tie as tie
+use Rattle.soundness.proofs.fit_members.Statement.{statement}
+use Rattle.soundness.proofs.fit_members.Tie as tie
 
 abbrev Inv-loop : tie.InvT-loop
 Inv-loop n labels g fit₀ d₀ fit d = (d ≤ n) × (fit ≡ allBelow d (λ d. not (has g d) || fitMember labels g d))

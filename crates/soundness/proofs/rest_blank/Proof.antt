@@ -1,4 +1,4 @@
--- `state::soundness::rest_blank` meets its contract. Assumes nothing.
+-- `soundness::rest_blank` meets its contract. Assumes nothing.
 use mathlib.Core.Path.{_≡_, refl}
 use mathlib.Core.Bool.{_||_}
 use Prim.Native.Nat.{_-_, _≤_}
@@ -10,8 +10,8 @@ use Rattle.protocol.specs.Geometry.{mostDisks}
 use Rattle.protocol.specs.Loops.{allBelow}
 use Rattle.protocol.specs.States.{labelAt}
 use Rattle.protocol.specs.Soundness.{isBlank}
-use Rattle.state.proofs.soundness.rest_blank.Statement.{statement}
-use Rattle.state.proofs.soundness.rest_blank.Tie as tie
+use Rattle.soundness.proofs.rest_blank.Statement.{statement}
+use Rattle.soundness.proofs.rest_blank.Tie as tie
 
 abbrev Inv-loop : tie.InvT-loop
 Inv-loop n labels fit₀ d₀ fit d = (d ≤ mostDisks) × (fit ≡ allBelow d (λ d. ltb d n || isBlank (labelAt labels d)))

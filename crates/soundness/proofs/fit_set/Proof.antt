@@ -1,8 +1,8 @@
--- `state::soundness::fit_set` meets its contract. Assumes nothing.
+-- `soundness::fit_set` meets its contract. Assumes nothing.
 use borrow.Author.Needs.{needs}
 use Rattle.protocol.specs.Soundness.{fitSet}
-use Rattle.state.proofs.soundness.fit_set.Statement.{statement}
-use Rattle.state.proofs.soundness.fit_set.Tie as tie
+use Rattle.soundness.proofs.fit_set.Statement.{statement}
+use Rattle.soundness.proofs.fit_set.Tie as tie
 
 below-requires : tie.Need-below-requires
 below-requires c κs = search needs

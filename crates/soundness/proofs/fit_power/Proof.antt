@@ -1,8 +1,8 @@
--- `state::soundness::fit_power` meets its contract. Assumes nothing.
+-- `soundness::fit_power` meets its contract. Assumes nothing.
 use borrow.Author.Needs.{needs}
 use Rattle.protocol.specs.Soundness.{fitPower}
-use Rattle.state.proofs.soundness.fit_power.Statement.{statement}
-use Rattle.state.proofs.soundness.fit_power.Tie as tie
+use Rattle.soundness.proofs.fit_power.Statement.{statement}
+use Rattle.soundness.proofs.fit_power.Tie as tie
 
 enum-told : tie.Need-enum-told
 enum-told c = search needs
