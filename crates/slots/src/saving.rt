@@ -21,7 +21,7 @@ use protocol::Answer;
 use protocol::State;
 use protocol::refusal::BUFFER_LENGTH;
 use protocol::refusal::UNSOUND;
-use state::sound;
+use soundness::sound;
 use state::without_stores;
 
 // The label, and "the rest of the slot zero".

@@ -2,7 +2,6 @@
 mod answer;
 mod geometry;
 mod power;
-mod soundness;
 
 pub use answer::without_stores;
 pub use answer::zero;
@@ -12,4 +11,3 @@ pub use power::current;
 pub use power::is_running;
 pub use power::live;
 pub use power::source;
-pub use soundness::sound;

@@ -9,7 +9,7 @@ lowest-requires c κs = search needs
 
 returns : tie.Need-returns
 unfolding source
-returns c = cc
+returns c = c .lowest .ensures
 
 pub source-spec : {M : Type 1} → statement M
 source-spec = tie.close (tie.spec lowest-requires returns)

@@ -1,0 +1,74 @@
+-- `naming::finder::among` meets its contract. Assumes nothing.
+use mathlib.Core.Path.{_≡_, refl}
+use Prim.Native.Nat.{_-_, _≤_}
+use native.Mathlib.Numerals.{add-one}
+use native.Mathlib.Omega.{arith}
+use borrow.Author.Needs.{needs}
+use Rattle.protocol.specs.Finder.{among}
+use Rattle.naming.specs.Meaning.{foundOf, stageOf}
+use Rattle.naming.proofs.finder.among.Statement.{statement}
+use Rattle.naming.proofs.finder.among.Tie as tie
+
+abbrev Inv-loop : tie.InvT-loop
+Inv-loop stage disks online labels found₀ d₀ found d = (d ≤ disks) × (foundOf found ≡ among (stageOf stage) disks online labels d)
+
+abbrev μ-loop : tie.MeasureT-loop
+μ-loop stage disks online labels found₀ d₀ found d = disks - d
+
+loop-holds : tie.Need-loop-holds Inv-loop μ-loop
+unfolding among
+loop-holds c = (omega arith, refl)
+
+mul-tried : tie.Need-mul-tried Inv-loop μ-loop
+mul-tried c = search needs
+
+array-copy-out-tried : tie.Need-array-copy-out-tried Inv-loop μ-loop
+array-copy-out-tried c = search needs
+
+tried-requires : tie.Need-tried-requires Inv-loop μ-loop
+tried-requires c κs = search needs
+
+candidate-requires : tie.Need-candidate-requires Inv-loop μ-loop
+candidate-requires c κs = search needs
+
+another-requires : tie.Need-another-requires Inv-loop μ-loop
+another-requires c κs = search needs
+
+add-d : tie.Need-add-d Inv-loop μ-loop
+add-d c = omega arith
+
+loop-less : tie.Need-loop-less Inv-loop μ-loop
+loop-less c = omega arith
+
+loop-again : tie.Need-loop-again Inv-loop μ-loop
+unfolding among
+loop-again c = (
+  omega arith,
+  rw (
+    add-one,
+    c .another .ensures,
+    c .before .candidate .ensures,
+    c .before .before .tried .ensures,
+    c .before .before .before .before .before .loop .inv .1,
+  ),
+)
+
+returns : tie.Need-returns Inv-loop μ-loop
+returns c = let e : c .before .loop .d ≡ c .before .before .args .disks = omega arith in rw e at (c .before .loop .inv .1)
+
+pub among-spec : {M : Type 1} → statement M
+among-spec =
+    tie.close
+    (tie.spec
+    Inv-loop
+    μ-loop
+    loop-holds
+    mul-tried
+    array-copy-out-tried
+    tried-requires
+    candidate-requires
+    another-requires
+    add-d
+    loop-less
+    loop-again
+    returns)

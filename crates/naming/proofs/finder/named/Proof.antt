@@ -1,0 +1,54 @@
+-- `naming::finder::named` meets its contract. Assumes nothing.
+use mathlib.Core.Path.{_≡_, refl}
+use borrow.Author.Needs.{needs}
+use Rattle.protocol.specs.Naming.{Found, none, one, several, orLater, decide}
+use Rattle.protocol.specs.Finder.{find}
+use Rattle.protocol.proofs.Finder.{finds-named}
+use Rattle.naming.proofs.finder.named.Statement.{statement}
+use Rattle.naming.proofs.finder.named.Tie as tie
+
+among-requires : tie.Need-among-requires
+among-requires c κs = search needs
+
+among-requires-2 : tie.Need-among-requires-2
+among-requires-2 c κs = search needs
+
+among-requires-3 : tie.Need-among-requires-3
+among-requires-3 c κs = search needs
+
+or-later-requires : tie.Need-or-later-requires
+or-later-requires c κs = search needs
+
+or-later-requires-2 : tie.Need-or-later-requires-2
+or-later-requires-2 c κs = search needs
+
+-- after the last stage there is nothing more to find
+last : (f : Found) → orLater f none ≡ f
+unfolding orLater
+last none = refl
+last (one x) = refl
+last several = refl
+
+returns : tie.Need-returns
+unfolding find decide
+returns c =
+    rw (
+      ← finds-named _ _ _ (c .before .before .before .before .before .pre .1),
+      last,
+      c .or-later2 .ensures,
+      c .before .or-later .ensures,
+      c .before .before .among3 .ensures,
+      c .before .before .before .among2 .ensures,
+      c .before .before .before .before .among .ensures,
+    )
+
+pub named-spec : {M : Type 1} → statement M
+named-spec =
+    tie.close
+    (tie.spec
+    among-requires
+    among-requires-2
+    among-requires-3
+    or-later-requires
+    or-later-requires-2
+    returns)

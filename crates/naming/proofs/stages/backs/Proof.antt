@@ -1,0 +1,29 @@
+-- `naming::stages::backs` meets its contract. Assumes nothing.
+use borrow.Author.Needs.{needs}
+use Rattle.protocol.specs.Naming.{backs}
+use Rattle.naming.proofs.stages.backs.Statement.{statement}
+use Rattle.naming.proofs.stages.backs.Tie as tie
+
+enum-told : tie.Need-enum-told
+enum-told c = search needs
+
+enum-told-2 : tie.Need-enum-told-2
+enum-told-2 c = search needs
+
+enum-told-3 : tie.Need-enum-told-3
+enum-told-3 c = search needs
+
+returns : tie.Need-returns
+unfolding backs
+returns c = cc
+
+returns-2 : tie.Need-returns-2
+unfolding backs
+returns-2 c = cc
+
+returns-3 : tie.Need-returns-3
+unfolding backs
+returns-3 c = cc
+
+pub backs-spec : {M : Type 1} → statement M
+backs-spec = tie.close (tie.spec enum-told enum-told-2 enum-told-3 returns returns-2 returns-3)
