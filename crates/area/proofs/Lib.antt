@@ -1,2 +1,3 @@
 -- The laws of parts of the area.
 pub mod Parts
+pub mod Sizes

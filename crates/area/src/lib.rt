@@ -1,9 +1,10 @@
 // Blocks in the disk area: the only code that computes where a block stands.
 ghost use mathlib.Core.Path.{_≡_};
 ghost use Prim.Native.Nat.{_*_, _≤_, _<_};
+ghost use lib.Dec.{eqb};
 ghost use lib.ListN.{length, take, drop, replicate};
 ghost use Rattle.label.specs.Writing.{splice};
-ghost use Rattle.protocol.specs.Geometry.{mostDisks, mostBlocks, blockSize, block, withBlock};
+ghost use Rattle.protocol.specs.Geometry.{mostDisks, mostBlocks, blockSize, areaSize, block, withBlock};
 ghost use Rattle.area.specs.Parts.{InArea, InPart};
 use protocol::geometry::BLOCK_SIZE;
 
@@ -68,5 +69,17 @@ pub fn clear(area: &mut [u8])
     while i < area.len() {
         area[i] = 0;
         i += 1;
+    }
+}
+
+// Whether a buffer of this size is the disk area of so many disks and blocks: of any numbers, whose product might overflow.
+pub fn fits(disks: usize, blocks: usize, size: usize) -> bool
+    ensures { λ r. ⌜ r ≡ eqb size (areaSize disks blocks) ⌝ }
+{
+    if blocks == 0 {
+        size == 0
+    } else {
+        let count = size / BLOCK_SIZE;
+        (size % BLOCK_SIZE == 0) & ((count % blocks == 0) & (count / blocks == disks))
     }
 }

@@ -37,7 +37,7 @@ use Rattle.protocol.proofs.Formatting.{freshLabel, fresh-label, no-labe
 
 -- ---- the set that a restart names is not empty, and inside R
 
-set-found : {online : ℕ} {labels : List Label} (f : Found) → Names online labels f → NamesOne f
+pub set-found : {online : ℕ} {labels : List Label} (f : Found) → Names online labels f → NamesOne f
     → (0 < theSet f) × ((d : ℕ) → has (theSet f) d ≡ true → has online d ≡ true)
 set-found none h single = absurd single
 set-found (one x) h single = let (stage, c) = found-candidate h in (c .filled, c .inside)

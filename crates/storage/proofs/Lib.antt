@@ -1,0 +1,10 @@
+pub mod DirtyDisks
+pub mod RegionBlocks
+pub mod Carrying
+pub mod Lengths
+pub mod WriteList
+pub mod JoinList
+pub mod RestartList
+pub mod Endings
+pub mod Passed
+pub mod SoundFirst

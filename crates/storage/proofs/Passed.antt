@@ -1,0 +1,69 @@
+-- What a call that is not refused knows, before its first store. Assumes nothing.
+use mathlib.Core.Path.{_≡_, refl, _∙_}
+use mathlib.Core.Bool.{true, false}
+use mathlib.Core.List.{List}
+use Prim.Native.Nat.{ℕ, _<_}
+use lib.ListN.{length}
+use borrow.Author.Tests.{eqb-true, not-false}
+use Rattle.sets.specs.Sets.{has, below}
+use Rattle.sets.proofs.Operations.{has-intersection}
+use Rattle.sets.proofs.Bounds.{below-inside}
+use Rattle.label.specs.Refusals.{firstOf}
+use Rattle.label.proofs.Order.{none-at}
+use Rattle.protocol.specs.declared.State.{State}
+use Rattle.protocol.specs.Geometry.{blockSize}
+use Rattle.protocol.specs.States.{currentOf, live, source}
+use Rattle.protocol.specs.Soundness.{Sound}
+use Rattle.protocol.specs.Calls.{theSet, foundBy, blockRefusals, joinRefusals, cleanRefusals, restartRefusals}
+use Rattle.protocol.proofs.Soundness.{test-agrees}
+use Rattle.protocol.proofs.Naming.{found-names}
+use Rattle.protocol.proofs.Passing.{block-passed, join-passed, restart-passed}
+use Rattle.protocol.proofs.SoundCalls.{set-found}
+use Rattle.area.specs.Parts.{InArea}
+use Rattle.stores.proofs.Copying.{in-area}
+use Rattle.storage.specs.Ready.{Ready}
+use Rattle.storage.proofs.WriteList.{live-known}
+use Rattle.storage.proofs.RestartList.{source-known}
+
+-- read and write
+module _ (s : State) (area : List ℕ) (k : ℕ) (bytes : List ℕ) (e : firstOf (blockRefusals s area k bytes) ≡ 0) where
+  pub write-passed : Ready s area × (k < s .blocks) × (length bytes ≡ blockSize)
+  unfolding blockRefusals
+  write-passed =
+      let pass = block-passed s area k bytes e in
+      let size = eqb-true _ _ (not-false _ (none-at (blockRefusals s area k bytes) refl e 1)) in
+      (record { fit = pass .fit; size = size }, pass .known, pass .full)
+
+  pub read-passed : InArea (s .blocks) (source (live s)) k area × (length bytes ≡ blockSize)
+  read-passed =
+      let (ready, known, full) = write-passed in
+      let range = ready .fit .range in
+      let from = source-known (s .disks) (live s) (block-passed s area k bytes e .some) (live-known s (ready .fit)) in
+      (in-area (s .disks) (s .blocks) _ k area (record { disks = range .disks; blocks = range .blocks; size = ready .size }) from known, full)
+
+pub join-ready : (s : State) (area : List ℕ) (d : ℕ) → firstOf (joinRefusals s area d) ≡ 0
+    → Ready s area × (0 < live s) × (d < s .disks) × (has (live s) d ≡ false)
+unfolding joinRefusals
+join-ready s area d e =
+    let no = none-at (joinRefusals s area d) refl e in
+    let pass = join-passed s area d e in (
+      record { fit = test-agrees s .0 (not-false _ (no 0)); size = eqb-true _ _ (not-false _ (no 1)) },
+      pass .some,
+      pass .known,
+      has-intersection (currentOf (s .power)) (s .online) d ∙ rw (no 5),
+    )
+
+pub clean-ready : (s : State) → firstOf (cleanRefusals s) ≡ 0 → Sound s
+unfolding cleanRefusals
+clean-ready s e = test-agrees s .0 (not-false _ (none-at (cleanRefusals s) refl e 0))
+
+pub restart-ready : (s : State) (area : List ℕ) → firstOf (restartRefusals s area) ≡ 0
+    → Ready s area × (0 < theSet (foundBy s)) × (below (theSet (foundBy s)) (s .disks) ≡ true)
+unfolding restartRefusals
+restart-ready s area e =
+    let pass = restart-passed s area e in
+    let (filled, inside) = set-found (foundBy s) (found-names s (pass .fit)) (pass .names) in (
+      record { fit = pass .fit; size = eqb-true _ _ (not-false _ (none-at (restartRefusals s area) refl e 1)) },
+      filled,
+      below-inside (theSet (foundBy s)) (s .online) (s .disks) inside (pass .fit .online),
+    )

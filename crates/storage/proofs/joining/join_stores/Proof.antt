@@ -1,0 +1,110 @@
+-- `storage::joining::join_stores` meets its contract. Assumes nothing.
+use native.Mathlib.Omega.{arith}
+use borrow.Author.Needs.{needs}
+use Rattle.sets.proofs.Bounds.{below-with}
+use Rattle.storage.proofs.RestartList.{source-known}
+use Rattle.storage.proofs.Carrying.{carried}
+use Rattle.storage.proofs.WriteList.{live-known}
+use Rattle.storage.proofs.JoinList.{join-ran, join-length, source-other}
+use Rattle.storage.proofs.joining.join_stores.Statement.{statement}
+use Rattle.storage.proofs.joining.join_stores.Tie as tie
+
+size-of-requires : tie.Need-size-of-requires
+size-of-requires c κs = search needs
+
+current-requires : tie.Need-current-requires
+current-requires c κs = search needs
+
+live-requires : tie.Need-live-requires
+live-requires c κs = search needs
+
+singleton-requires : tie.Need-singleton-requires
+singleton-requires c κs = search needs
+
+union-requires : tie.Need-union-requires
+union-requires c κs = search needs
+
+live-length-requires : tie.Need-live-length-requires
+live-length-requires c κs = search needs
+
+add-stores : tie.Need-add-stores
+add-stores c = rw (c .before .before .before .before .before .before .size-of .ensures) (omega (arith, c .before .before .before .before .before .before .before .before .pre .0 .fit .range .blocks))
+
+move-length-requires : tie.Need-move-length-requires
+move-length-requires c κs = search needs
+
+add-stores-2 : tie.Need-add-stores-2
+add-stores-2 c = rw (c .before .before .before .before .before .before .before .size-of .ensures) (omega (arith, c .before .before .before .before .before .before .before .before .before .pre .0 .fit .range .blocks))
+
+started-requires : tie.Need-started-requires
+started-requires c κs = search needs
+
+move-to-live-requires : tie.Need-move-to-live-requires
+move-to-live-requires c κs = rw (c .before .before .before .before .before .before .before .before .size-of .ensures) (c .before .before .before .before .before .before .before .before .before .before .pre .0 .fit .range .disks)
+
+source-requires : tie.Need-source-requires
+source-requires c κs = search needs
+
+copy-blocks-requires : tie.Need-copy-blocks-requires
+copy-blocks-requires c κs =
+    let start = c .before .before .before .before .before .before .before .before .before .before .before .before .before in
+    let live = c .before .before .before .before .before .before .before .before .before .live .ensures in
+    let s = start .args .s in
+    rw (c .before .before .before .before .before .before .before .before .before .before .before .size-of .ensures, c .source .ensures, live, c .before .before .before .before .before .before .before .before .singleton .ensures) (
+      record { disks = start .pre .0 .fit .range .disks; blocks = start .pre .0 .fit .range .blocks; size = start .pre .0 .size },
+      source-known (s .disks) _ (start .pre .1) (live-known s (start .pre .0 .fit)),
+      source-other s _ (start .pre .1) (start .pre .3),
+      omega arith,
+    )
+
+move-to-requires : tie.Need-move-to-requires
+move-to-requires c κs = rw (c .before .before .before .before .before .before .before .before .before .before .before .before .before .before .size-of .ensures) (c .before .before .before .before .before .before .before .before .before .before .before .before .before .before .before .before .pre .0 .fit .range .disks)
+
+ended-requires : tie.Need-ended-requires
+ended-requires c κs = search needs
+
+same-length : tie.Need-same-length
+same-length c = search needs
+
+returns : tie.Need-returns
+returns c output =
+    let start = c .before .before .before .before .before .before .before .before .before .before .before .before .before .before .before .before .before .before in
+    let s = start .args .s in
+    let d = start .args .d in
+    let area = start .args .area .now in
+    let fit = start .pre .0 .fit in
+    let live = c .before .before .before .before .before .before .before .before .before .before .before .before .before .before .live .ensures in
+    let size = c .before .before .before .before .before .before .before .before .before .before .before .before .before .before .before .before .size-of .ensures in
+    let current = c .before .before .before .before .before .before .before .before .before .before .before .before .before .before .before .current .ensures in
+    let new = c .before .before .before .before .before .before .before .before .before .before .before .before .before .singleton .ensures in
+    let joined = c .before .before .before .before .before .before .before .before .before .before .before .before .union .ensures in
+    let moved = rw (size, live, current, c .before .before .before .before .before .before .before .before .started .ensures) at (c .before .before .before .before .before .before .before .move-to-live .ensures (s .blocks) area) in
+    let filled = rw (size, c .before .before .before .before .before .source .ensures, live, new) at (c .before .before .before .before .copy-blocks .ensures) in
+    let last = rw (size, joined, live, new) at (c .before .move-to .ensures (s .blocks) (c .before .before .before .before .copy-blocks .last .1 .0)) in
+    let moves = rw (live, current) at (c .before .before .before .before .before .before .before .before .before .before .before .live-length .ensures .0 (s .disks) (rw live (live-known s fit))) in
+    let ends = rw (joined, live, new) at (c .before .before .before .before .before .before .before .before .before .move-length .ensures .0 (s .disks) (rw (joined, live, new) (below-with _ d (s .disks) (live-known s fit) (start .pre .2)))) in
+    rw (c .ended .ensures, joined, live, new)
+    (carried s _ _ (start .args .budget) _ area _ output (join-ran s d (start .pre .2) _ moved filled last) _
+    (rw size (omega (arith, moves, ends, join-length s d (start .pre .2)))))
+
+pub join-stores-spec : {M : Type 1} → statement M
+join-stores-spec =
+    tie.close
+    (tie.spec
+    size-of-requires
+    current-requires
+    live-requires
+    singleton-requires
+    union-requires
+    live-length-requires
+    add-stores
+    move-length-requires
+    add-stores-2
+    started-requires
+    move-to-live-requires
+    source-requires
+    copy-blocks-requires
+    move-to-requires
+    ended-requires
+    same-length
+    returns)

@@ -1,0 +1,60 @@
+-- `storage::restarting::mend_length` meets its contract. Assumes nothing.
+use mathlib.Core.Path.{sym, _∙_}
+use native.Mathlib.Omega.{arith}
+use borrow.Author.Needs.{needs}
+use Rattle.storage.proofs.RestartList.{mend-size, mend-most}
+use Rattle.storage.proofs.RegionBlocks.{region-short}
+use Rattle.storage.proofs.restarting.mend_length.Statement.{statement}
+use Rattle.storage.proofs.restarting.mend_length.Tie as tie
+
+is-dirty-requires : tie.Need-is-dirty-requires
+is-dirty-requires c κs = search needs
+
+region-blocks-requires : tie.Need-region-blocks-requires
+region-blocks-requires c κs = search needs
+
+others-requires : tie.Need-others-requires
+others-requires c κs = search needs
+
+count-requires : tie.Need-count-requires
+count-requires c κs = search needs
+
+mul-result : tie.Need-mul-result
+mul-result c =
+    let blocks = c .before .before .region-blocks .result in
+    omega (arith, mend-most blocks (c .count .result) (rw (c .before .before .region-blocks .ensures) (region-short _ _)) (c .count .ensures .1))
+
+count-requires-2 : tie.Need-count-requires-2
+count-requires-2 c κs = search needs
+
+add-result : tie.Need-add-result
+add-result c =
+    let blocks = c .before .before .before .region-blocks .result in
+    omega (arith, mend-most blocks (c .before .count .result) (rw (c .before .before .before .region-blocks .ensures) (region-short _ _)) (c .before .count .ensures .1))
+
+returns : tie.Need-returns
+returns c =
+    let a = c .before .before .before .before .before .before .args in
+    let pre = c .before .before .before .before .before .before .pre in
+    let blocks = c .before .before .before .region-blocks in
+    let others = rw (c .before .before .others .ensures) at (c .before .count .ensures .0) in (
+      rw (sym (c .before .before .before .before .before .is-dirty .ensures) ∙ c .before .before .before .before .if1 .taken, mend-size (a .size .disks) (a .size .blocks) (a .set) (a .r) (pre .1), blocks .ensures, others, c .count2 .ensures .0),
+      omega (arith, mend-most (blocks .result) (c .before .count .result) (rw (blocks .ensures) (region-short _ _)) (c .before .count .ensures .1)),
+    )
+
+returns-2 : tie.Need-returns-2
+returns-2 c = (rw (sym (c .before .is-dirty .ensures) ∙ c .if1 .left), omega arith)
+
+pub mend-length-spec : {M : Type 1} → statement M
+mend-length-spec =
+    tie.close
+    (tie.spec
+    is-dirty-requires
+    region-blocks-requires
+    others-requires
+    count-requires
+    mul-result
+    count-requires-2
+    add-result
+    returns
+    returns-2)

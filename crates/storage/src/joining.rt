@@ -1,0 +1,53 @@
+// Join.
+ghost use mathlib.Core.Path.{_≡_};
+ghost use mathlib.Core.Bool.{false};
+ghost use mathlib.Core.List.{List};
+ghost use Prim.Native.Nat.{ℕ, _<_};
+ghost use Rattle.sets.specs.Sets.{has, union, singleton};
+ghost use Rattle.protocol.specs.States.{live};
+ghost use Rattle.protocol.specs.Lists.{joinList};
+ghost use Rattle.protocol.specs.Outcomes.{carryOut};
+ghost use Rattle.protocol.specs.Calls.{joinOutcome};
+ghost use Rattle.storage.specs.Ready.{Ready};
+use crate::ending::ended;
+use crate::ending::size_of;
+use crate::ending::started;
+use crate::moves::live_length;
+use crate::moves::move_length;
+use crate::moves::move_to;
+use crate::moves::move_to_live;
+use crate::refusals::join_refusal;
+use protocol::Answer;
+use protocol::State;
+use state::without_stores;
+
+// "if L differs from G, move to L. Copy all blocks, ascending, from the lowest member of L to d. Then move to L with d."
+fn join_stores(s: State, area: &mut [u8], d: usize, budget: u16) -> Answer
+    requires { ⌜ Ready s (now area) × (0 < live s) × (d < s .disks) × (has (live s) d ≡ false) ⌝ }
+    ensures { λ r. ⌜ ((output : List ℕ) → record { answer = r; area = now (area .exit); output = output } ≡ carryOut (joinList s d) budget (union (live s) (singleton d)) s (now (area .entry)) output) ⌝ }
+{
+    let power = s.power;
+    let size = size_of(s);
+    let n = size.disks;
+    let current = state::current(power);
+    let live = state::live(s);
+    let new = sets::singleton(d);
+    let joined = sets::union(live, new);
+    let stores = live_length(current, live) + size.blocks + move_length(joined);
+    let run = move_to_live(started(s, budget), n, current, live);
+    let run = stores::copy_blocks(run, area, size, state::source(live), new, 0, size.blocks);
+    let run = move_to(run, n, joined);
+    ended(s, run, stores, joined, budget)
+}
+
+// Given no output, it leaves any.
+pub fn join(s: State, area: &mut [u8], d: usize, budget: u16) -> Answer
+    ensures { λ r. ⌜ ((output : List ℕ) → record { answer = r; area = now (area .exit); output = output } ≡ joinOutcome s (now (area .entry)) output d budget) ⌝ }
+{
+    let refusal = join_refusal(s, area.len(), d);
+    if refusal == 0 {
+        join_stores(s, area, d, budget)
+    } else {
+        without_stores(s, refusal)
+    }
+}

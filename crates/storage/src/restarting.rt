@@ -1,0 +1,160 @@
+// Restart.
+ghost use mathlib.Core.Path.{_≡_};
+ghost use mathlib.Core.Bool.{true};
+ghost use mathlib.Core.List.{List};
+ghost use Prim.Native.Nat.{ℕ, _+_, _*_, _≤_, _<_};
+ghost use lib.ListN.{length};
+ghost use Rattle.sets.specs.Sets.{below};
+ghost use Rattle.protocol.specs.Geometry.{mostDisks, mostBlocks, regionSize, regions};
+ghost use Rattle.protocol.specs.Loops.{some};
+ghost use Rattle.protocol.specs.States.{isDirty};
+ghost use Rattle.protocol.specs.Soundness.{sound};
+ghost use Rattle.protocol.specs.Lists.{mends, restartList};
+ghost use Rattle.protocol.specs.Outcomes.{carryOut};
+ghost use Rattle.protocol.specs.Calls.{theSet, foundBy, restartOutcome};
+ghost use Rattle.naming.specs.Meaning.{foundOf};
+ghost use Rattle.stores.specs.Runs.{progress, steps};
+ghost use Rattle.stores.specs.Sizes.{Fits};
+ghost use Rattle.storage.specs.Ready.{Ready};
+ghost use Rattle.storage.specs.Turns.{mendOf};
+use crate::counts::count;
+use crate::ending::ended;
+use crate::ending::size_of;
+use crate::ending::started;
+use crate::refusals::restart_refusal;
+use crate::regions::dirty_disks;
+use crate::regions::others;
+use crate::regions::region_blocks;
+use label::Label;
+use naming::Naming;
+use protocol::Answer;
+use protocol::State;
+use protocol::geometry::REGION_SIZE;
+use sets::DISKS;
+use sets::Mask;
+use soundness::sound;
+use state::without_stores;
+use stores::Change;
+use stores::Run;
+use stores::Size;
+
+// Whether the region is "dirty on any disk of S".
+fn is_dirty(labels: [Label; DISKS], n: usize, set: Mask, r: usize) -> bool
+    requires { do ⌜ n ≤ (← ⟦DISKS⟧) ⌝ }
+    ensures { λ t. ⌜ t ≡ some n set (λ d. isDirty labels d r) ⌝ }
+{
+    sets::intersection(set, dirty_disks(labels, n, r)) != 0
+}
+
+// How many stores region r takes.
+fn mend_length(labels: [Label; DISKS], size: Size, set: Mask, r: usize) -> usize
+    requires { ⌜ (size .disks ≤ mostDisks) × (below set (size .disks) ≡ true) × (r * regionSize ≤ size .blocks) ⌝ }
+    ensures { λ k. ⌜ (k ≡ length (mendOf (size .disks) (size .blocks) labels set r)) × (k ≤ (regionSize + 1) * mostDisks) ⌝ }
+{
+    if is_dirty(labels, size.disks, set, r) {
+        region_blocks(size.blocks, r) * count(others(set)) + count(set)
+    } else {
+        0
+    }
+}
+
+fn mends_length(labels: [Label; DISKS], size: Size, set: Mask) -> usize
+    requires { ⌜ (size .disks ≤ mostDisks) × (size .blocks ≤ mostBlocks) × (below set (size .disks) ≡ true) ⌝ }
+    ensures { λ k. ⌜ (k ≡ length (mends (size .disks) (size .blocks) labels set)) × (k ≤ mostDisks * ((regionSize + 1) * mostDisks)) ⌝ }
+{
+    let regions = state::regions(size.blocks);
+    let mut stores = 0;
+    let mut r = 0;
+    while r < regions {
+        stores += mend_length(labels, size, set, r);
+        r += 1;
+    }
+    stores
+}
+
+// "for each block ascending, copy it from the lowest member to each other member, ascending; then clear the bit on every
+// member, ascending, standing or not", if the region was dirty on any of them at the call.
+fn mend(run: Run, area: &mut [u8], labels: [Label; DISKS], size: Size, set: Mask, r: usize) -> Run
+    requires { ⌜ Fits (size .disks) (size .blocks) (now area) × (0 < set) × (below set (size .disks) ≡ true) × (r < regions (size .blocks)) ⌝ }
+    ensures { λ q. ⌜ progress q (now (area .exit)) ≡ steps (size .blocks) (mendOf (size .disks) (size .blocks) labels set r) (progress run (now (area .entry))) ⌝ }
+{
+    let n = size.disks;
+    if !is_dirty(labels, n, set, r) {
+        return run;
+    }
+    let first = r * REGION_SIZE;
+    let count = region_blocks(size.blocks, r);
+    let run = stores::copy_blocks(
+        run,
+        area,
+        size,
+        state::source(set),
+        others(set),
+        first,
+        count,
+    );
+    stores::store_labels(run, n, set, Change::Clear(r))
+}
+
+// "For each region, ascending"
+fn mend_all(run: Run, area: &mut [u8], labels: [Label; DISKS], size: Size, set: Mask) -> Run
+    requires { ⌜ Fits (size .disks) (size .blocks) (now area) × (0 < set) × (below set (size .disks) ≡ true) ⌝ }
+    ensures { λ q. ⌜ progress q (now (area .exit)) ≡ steps (size .blocks) (mends (size .disks) (size .blocks) labels set) (progress run (now (area .entry))) ⌝ }
+{
+    let regions = state::regions(size.blocks);
+    let mut run = run;
+    let mut r = 0;
+    while r < regions {
+        run = mend(run, area, labels, size, set, r);
+        r += 1;
+    }
+    run
+}
+
+// "At the end store C = S and T = 0 on every member, ascending. Then run with G = S."
+fn restart_stores(s: State, area: &mut [u8], set: Mask, budget: u16) -> Answer
+    requires { ⌜ Ready s (now area) × (0 < set) × (below set (s .disks) ≡ true) ⌝ }
+    ensures { λ r. ⌜ ((output : List ℕ) → record { answer = r; area = now (area .exit); output = output } ≡ carryOut (restartList s set) budget set s (now (area .entry)) output) ⌝ }
+{
+    let labels = s.labels;
+    let size = size_of(s);
+    let stores = mends_length(labels, size, set) + count(set);
+    let run = mend_all(started(s, budget), area, labels, size, set);
+    let run = stores::store_labels(run, size.disks, set, Change::Commit(set));
+    ended(s, run, stores, set, budget)
+}
+
+// What the labels of a sound state name; of another state, which is refused, nothing is asked.
+fn found_by(s: State) -> Naming
+    ensures { λ r. ⌜ (sound s ≡ true → foundOf r ≡ foundBy s) ⌝ }
+{
+    if sound(s) {
+        let labels = s.labels;
+        naming::named(s.disks as usize, s.online, labels)
+    } else {
+        Naming::Nothing
+    }
+}
+
+fn the_set(found: Naming) -> Mask
+    ensures { λ r. ⌜ r ≡ theSet (foundOf found) ⌝ }
+{
+    match found {
+        Naming::Nothing => 0,
+        Naming::One(x) => x,
+        Naming::Several => 0,
+    }
+}
+
+// Given no output, it leaves any.
+pub fn restart(s: State, area: &mut [u8], budget: u16) -> Answer
+    ensures { λ r. ⌜ ((output : List ℕ) → record { answer = r; area = now (area .exit); output = output } ≡ restartOutcome s (now (area .entry)) output budget) ⌝ }
+{
+    let found = found_by(s);
+    let refusal = restart_refusal(s, area.len(), found);
+    if refusal == 0 {
+        restart_stores(s, area, the_set(found), budget)
+    } else {
+        without_stores(s, refusal)
+    }
+}

@@ -1,0 +1,57 @@
+// Write.
+ghost use mathlib.Core.Path.{_≡_};
+ghost use mathlib.Core.List.{List};
+ghost use Prim.Native.Nat.{ℕ, _<_};
+ghost use lib.ListN.{length};
+ghost use Rattle.protocol.specs.Geometry.{blockSize};
+ghost use Rattle.protocol.specs.States.{live};
+ghost use Rattle.protocol.specs.Lists.{writeList};
+ghost use Rattle.protocol.specs.Outcomes.{carryOut};
+ghost use Rattle.protocol.specs.Calls.{writeOutcome};
+ghost use Rattle.storage.specs.Ready.{Ready};
+use crate::counts::count;
+use crate::ending::ended;
+use crate::ending::size_of;
+use crate::ending::started;
+use crate::moves::live_length;
+use crate::moves::move_to_live;
+use crate::refusals::block_refusal;
+use crate::regions::dirty_disks;
+use protocol::Answer;
+use protocol::State;
+use protocol::geometry::REGION_SIZE;
+use state::without_stores;
+use stores::Change;
+
+// "if L differs from G, move to L. Then set the region's dirty bit on each disk of L, ascending, where it does not stand.
+// Then store the block on each disk of L, ascending."
+fn write_stores(s: State, area: &mut [u8], k: usize, bytes: &[u8], budget: u16) -> Answer
+    requires { ⌜ Ready s (now area) × (k < s .blocks) × (length (now bytes) ≡ blockSize) ⌝ }
+    ensures { λ r. ⌜ ((output : List ℕ) → record { answer = r; area = now (area .exit); output = output } ≡ carryOut (writeList s k (now (bytes .entry))) budget (live s) s (now (area .entry)) output) ⌝ }
+{
+    let power = s.power;
+    let labels = s.labels;
+    let size = size_of(s);
+    let n = size.disks;
+    let current = state::current(power);
+    let live = state::live(s);
+    let region = k / REGION_SIZE;
+    let unmarked = sets::difference(live, dirty_disks(labels, n, region));
+    let stores = live_length(current, live) + count(unmarked) + count(live);
+    let run = move_to_live(started(s, budget), n, current, live);
+    let run = stores::store_labels(run, n, unmarked, Change::Mark(region));
+    let run = stores::store_blocks(run, area, size, live, k, bytes);
+    ended(s, run, stores, live, budget)
+}
+
+// Given no output, it leaves any.
+pub fn write(s: State, area: &mut [u8], k: usize, bytes: &[u8], budget: u16) -> Answer
+    ensures { λ r. ⌜ ((output : List ℕ) → record { answer = r; area = now (area .exit); output = output } ≡ writeOutcome s (now (area .entry)) output k (now (bytes .entry)) budget) ⌝ }
+{
+    let refusal = block_refusal(s, area.len(), k, bytes.len());
+    if refusal == 0 {
+        write_stores(s, area, k, bytes, budget)
+    } else {
+        without_stores(s, refusal)
+    }
+}
