@@ -1,0 +1,24 @@
+// Read.
+ghost use mathlib.Core.Path.{_≡_};
+ghost use Rattle.protocol.specs.Calls.{readOutcome};
+use crate::refusals::block_refusal;
+use area::load;
+use protocol::Answer;
+use protocol::State;
+use state::live;
+use state::source;
+use state::without_stores;
+
+// "Read copies block k from the lowest member of L."
+pub fn read(s: State, area: &[u8], k: usize, output: &mut [u8]) -> Answer
+    ensures { λ r. ⌜ record { answer = r; area = now (area .entry); output = now (output .exit) } ≡ readOutcome s (now (area .entry)) (now (output .entry)) k ⌝ }
+{
+    let refusal = block_refusal(s, area.len(), k, output.len());
+    if refusal == 0 {
+        let from = source(live(s));
+        load(area, s.blocks as usize, from, k, output);
+        without_stores(s, 0)
+    } else {
+        without_stores(s, refusal)
+    }
+}
