@@ -28,4 +28,4 @@ module _ (size n b : ℕ) where
       (λ e.
       let is = eqb-true size (n * b * 64) e in
       let count : size / 64 ≡ n * b = omega arith in
-      rw (count, eq-eqb (size % 64) 0 (omega arith), mul-mod-left n b, mul-div-cancel n h) (eq-eqb n n (refl)))
+      rw (count, eq-eqb (size % 64) 0 (omega arith), mul-mod-left n b, mul-div-cancel n h) (eq-eqb n n refl))

@@ -2,8 +2,8 @@
 use mathlib.Core.Path.{refl, sym, _∙_}
 use borrow.Author.Needs.{needs}
 use Rattle.protocol.specs.Calls.{formatOutcome}
-use Rattle.cabinet.proofs.Endings.{refused, passed}
 use Rattle.protocol.proofs.Formatting.{format-passed}
+use Rattle.cabinet.proofs.Endings.{refused, passed}
 use Rattle.cabinet.proofs.Passed.{cleared}
 use Rattle.cabinet.proofs.formatting.format.Statement.{statement}
 use Rattle.cabinet.proofs.formatting.format.Tie as tie
