@@ -7,10 +7,8 @@ use Prim.Native.Nat.{ℕ, zero, suc, _^_, _<_}
 use native.Mathlib.Omega.{arith}
 use lib.Dec.{eqb}
 use borrow.Author.Tests.{eq-eqb, ne-eqb}
-use Rattle.sets.specs.Sets.{has}
 use Rattle.sets.proofs.Tests.{Test, passes, fails, test, clash, same-or-not}
 use Rattle.label.specs.declared.Label.{Label}
-use Rattle.protocol.specs.Loops.{every, some}
 use Rattle.protocol.specs.States.{labelAt}
 use Rattle.protocol.specs.Naming.{Stage, first, second, third, Found, one, several, Backs, Proposes, Candidate, Exactly, no-set, one-set, several-sets, stages, candidate}
 use Rattle.protocol.specs.Finder.{tried, another, among, find, FindsNamed}

@@ -8,7 +8,7 @@ use Rattle.sets.specs.Sets.{has}
 use Rattle.protocol.specs.declared.Power.{Power}
 use Rattle.protocol.specs.declared.Power.the-variants.{Stopped, Running}
 use Rattle.protocol.specs.Geometry.{block}
-use Rattle.protocol.specs.Soundness.{sound, Proper}
+use Rattle.protocol.specs.Soundness.{Proper}
 use Rattle.protocol.specs.Stores.{Disks}
 use Rattle.protocol.specs.Outcomes.{Outcome}
 use Rattle.protocol.specs.Calls.{formatted, formatOutcome}

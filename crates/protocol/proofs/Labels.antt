@@ -14,7 +14,7 @@ use Rattle.sets.proofs.Operations.{has-union, has-difference, has-singleton}
 use Rattle.label.specs.declared.Label.{Label}
 use Rattle.protocol.specs.States.{blank, labelAt, isDirty}
 use Rattle.protocol.specs.Stores.{Disks, mark, clear, propose, commit, withDirty, apply, applyAll}
-use Rattle.protocol.specs.Lists.{proposals, commits, move, moveToLive}
+use Rattle.protocol.specs.Lists.{proposals, commits, moveToLive}
 use Rattle.protocol.proofs.ListStores.{each-live}
 use Rattle.protocol.proofs.Runs.{keeps, made-members}
 

@@ -1,5 +1,5 @@
 -- The ways in which a call ends, and what is known where it is not refused. Assumes nothing.
-use mathlib.Core.Path.{_≡_, refl}
+use mathlib.Core.Path.{_≡_, refl, _∙_}
 use mathlib.Core.Logic.{_≢_, _⊎_, inl, inr}
 use mathlib.Core.Bool.{Bool, false, not, cond}
 use mathlib.Core.List.{List}
@@ -12,6 +12,7 @@ use Rattle.label.specs.Refusals.{firstOf}
 use Rattle.label.proofs.Order.{none-at}
 use Rattle.protocol.specs.declared.Power.{Power}
 use Rattle.protocol.specs.declared.Power.the-variants.{Stopped, Running}
+use Rattle.protocol.specs.declared.Answer.{Answer}
 use Rattle.protocol.specs.declared.State.{State}
 use Rattle.protocol.specs.Geometry.{blockSize}
 use Rattle.protocol.specs.States.{isRunning, live}
@@ -34,6 +35,18 @@ module _ (refusals : List (ℕ × Bool)) (s : State) (area output : List ℕ) (d
       go : (firstOf refusals ≡ 0) ⊎ (firstOf refusals ≢ 0) → P (cond (eqb (firstOf refusals) 0) done (outcome (firstOf refusals) 0 s area output))
       go (inl e) = rw (eq-eqb (firstOf refusals) 0 e) (passed e)
       go (inr ne) = rw (ne-eqb (firstOf refusals) 0 ne) (refused ne)
+
+-- the same of a call that found its first refusal, and then gave this
+module _ (refusals : List (ℕ × Bool)) (s : State) (area output : List ℕ) (done : Outcome) {refusal : ℕ} (first : refusal ≡ firstOf refusals) where
+  -- "A refusal gives its number, a store count of 0, and no change in the state or any buffer"
+  pub refused : refusal ≢ 0 → {given : Answer} → given ≡ record { refusal = refusal; stores = 0; state = s }
+      → record { answer = given; area = area; output = output } ≡ refusedOr refusals s area output done
+  unfolding refusedOr
+  refused ne e = rw (← first, ne-eqb refusal 0 ne, e)
+
+  pub passed : refusal ≡ 0 → {given : Outcome} → given ≡ done → given ≡ refusedOr refusals s area output done
+  unfolding refusedOr
+  passed z e = e ∙ rw (← first, z)
 
 -- cut or whole
 module _ (stores : List Store) (budget g : ℕ) (s : State) (area output : List ℕ) where

@@ -6,13 +6,13 @@ use mathlib.Core.Bool.{Bool, true, false, cond}
 use mathlib.Core.List.{List, [], _∷_, _++_, append-nil}
 use Prim.Native.Nat.{ℕ, zero, suc, _^_, _≤_, _<_}
 use native.Mathlib.Omega.{arith}
-use lib.ListN.{length, take, set}
+use lib.ListN.{length, take}
 use borrow.Author.Tests.{eq-eqb, ne-eqb}
 use Rattle.sets.proofs.Tests.{same-or-not}
 use Rattle.sets.specs.Sets.{has}
 use Rattle.sets.proofs.Bounds.{member-below}
 use Rattle.label.specs.declared.Label.{Label}
-use Rattle.protocol.specs.Geometry.{blockSize, regionOf, areaSize, block}
+use Rattle.protocol.specs.Geometry.{blockSize, regionOf, areaSize}
 use Rattle.protocol.specs.Loops.{forEach}
 use Rattle.protocol.specs.States.{isDirty, source}
 use Rattle.protocol.specs.Stores.{Disks, Store, write, mark, apply, applyAll}

@@ -1,5 +1,5 @@
 -- Document 01, "Stores and supply": the list of stores of each call that changes disks, as the state at the call fixes it.
-use mathlib.Core.Bool.{cond, not}
+use mathlib.Core.Bool.{cond}
 use mathlib.Core.List.{List, [], _∷_, _++_}
 use Prim.Native.Nat.{ℕ, _+_, _*_}
 use lib.Dec.{eqb, ltb}

@@ -5,6 +5,5 @@ pub mod Lengths
 pub mod WriteList
 pub mod JoinList
 pub mod RestartList
-pub mod Endings
 pub mod Passed
 pub mod SoundFirst

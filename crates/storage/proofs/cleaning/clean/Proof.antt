@@ -1,7 +1,7 @@
 -- `storage::cleaning::clean` meets its contract. Assumes nothing.
 use mathlib.Core.Path.{sym, _∙_}
 use borrow.Author.Needs.{needs}
-use Rattle.storage.proofs.Endings.{refused, passed}
+use Rattle.protocol.proofs.Passing.{refused, passed}
 use Rattle.protocol.specs.Calls.{cleanOutcome}
 use Rattle.storage.proofs.Passed.{clean-ready}
 use Rattle.storage.proofs.cleaning.clean.Statement.{statement}

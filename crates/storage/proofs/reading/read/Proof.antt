@@ -2,7 +2,7 @@
 use mathlib.Core.Path.{refl, sym, _∙_}
 use borrow.Author.Needs.{needs}
 use Rattle.protocol.specs.Calls.{readOutcome}
-use Rattle.storage.proofs.Endings.{refused, passed}
+use Rattle.protocol.proofs.Passing.{refused, passed}
 use Rattle.storage.proofs.Passed.{read-passed}
 use Rattle.storage.proofs.reading.read.Statement.{statement}
 use Rattle.storage.proofs.reading.read.Tie as tie

@@ -2,7 +2,7 @@
 use mathlib.Core.Path.{refl, sym, ap, _∙_}
 use borrow.Author.Needs.{needs}
 use Rattle.protocol.proofs.Soundness.{test-agrees}
-use Rattle.storage.proofs.Endings.{refused, passed}
+use Rattle.protocol.proofs.Passing.{refused, passed}
 use Rattle.protocol.specs.Calls.{theSet, restartOutcome}
 use Rattle.storage.proofs.Passed.{restart-ready}
 use Rattle.storage.proofs.restarting.restart.Statement.{statement}

@@ -1,7 +1,7 @@
 -- `storage::writing::write` meets its contract. Assumes nothing.
 use mathlib.Core.Path.{refl, sym, _∙_}
 use borrow.Author.Needs.{needs}
-use Rattle.storage.proofs.Endings.{refused, passed}
+use Rattle.protocol.proofs.Passing.{refused, passed}
 use Rattle.protocol.specs.Calls.{writeOutcome}
 use Rattle.storage.proofs.Passed.{write-passed}
 use Rattle.storage.proofs.writing.write.Statement.{statement}

@@ -15,7 +15,7 @@ use Rattle.protocol.proofs.Demand3.{demand-3}
 use Rattle.protocol.proofs.ReadCalls.{reads-right}
 use Rattle.protocol.proofs.WritesCount.{writes-count}
 use Rattle.protocol.proofs.SoundLists.{soundness-kept}
-use Rattle.program.specs.Program.{Exchange, Returned, by-read, by-write, by-join, by-clean, by-restart, by-detach, by-attach, by-power-off, by-apply, Run, begun, followed, ExchangeIn, steps, Handed, referenceBefore, reference, yielded, RunsAreHistories, ProgramMeetsDemand3}
+use Rattle.cabinet.specs.Program.{Exchange, Returned, by-read, by-write, by-join, by-clean, by-restart, by-detach, by-attach, by-power-off, by-apply, Run, begun, followed, ExchangeIn, steps, Handed, referenceBefore, reference, yielded, RunsAreHistories, ProgramMeetsDemand3}
 
 -- each promise is the protocol's step
 returned-is : {s : State} {area : List ℕ} {x : Exchange} → Returned s area x → yielded x ≡ outcomeOf (x .given) (record { state = s; area = area })

@@ -1,0 +1,3 @@
+-- The laws of calls.
+pub mod Fresh
+pub mod Passed

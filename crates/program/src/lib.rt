@@ -1,1 +1,0 @@
-// From the calls' promises to demand 3: specs/Program.antt.
