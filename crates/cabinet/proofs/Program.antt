@@ -15,7 +15,7 @@ use Rattle.protocol.proofs.Demand3.{demand-3}
 use Rattle.protocol.proofs.ReadCalls.{reads-right}
 use Rattle.protocol.proofs.WritesCount.{writes-count}
 use Rattle.protocol.proofs.SoundLists.{soundness-kept}
-use Rattle.cabinet.specs.Program.{Exchange, Returned, by-read, by-write, by-join, by-clean, by-restart, by-detach, by-attach, by-power-off, by-apply, Run, begun, followed, ExchangeIn, steps, Handed, referenceBefore, reference, yielded, RunsAreHistories, ProgramMeetsDemand3}
+use Rattle.cabinet.specs.Program.{Exchange, Returned, by-read, by-write, by-join, by-clean, by-restart, by-detach, by-attach, by-power-off, by-apply, Session, begun, followed, ExchangeIn, steps, Handed, referenceBefore, reference, yielded, SessionsAreHistories, ProgramMeetsDemand3}
 
 -- each promise is the protocol's step
 returned-is : {s : State} {area : List ℕ} {x : Exchange} → Returned s area x → yielded x ≡ outcomeOf (x .given) (record { state = s; area = area })
@@ -56,44 +56,44 @@ module _ {A : Type 0} (x y : A) where
       go (inr (later, p)) = inr (later, cc)
 
 module _ {n b : ℕ} {lent : List ℕ} where
-  format-done : {calls : List Exchange} {s : State} {area : List ℕ} → Run n b lent calls s area → formatOutcome lent [] n b .answer .refusal ≡ 0
+  format-done : {calls : List Exchange} {s : State} {area : List ℕ} → Session n b lent calls s area → formatOutcome lent [] n b .answer .refusal ≡ 0
   format-done (begun p z) = sym (ap (λ o. o .answer .refusal) (p [])) ∙ z
-  format-done (followed run r) = format-done run
+  format-done (followed session r) = format-done session
 
-  left-is : {calls : List Exchange} {s : State} {area : List ℕ} → Run n b lent calls s area → record { state = s; area = area } ≡ program n b lent (steps calls)
+  left-is : {calls : List Exchange} {s : State} {area : List ℕ} → Session n b lent calls s area → record { state = s; area = area } ≡ program n b lent (steps calls)
   unfolding ran
   left-is (begun p z) = ap cabinetOf (p [])
-  left-is (followed {calls} {x = x} run r) = ap cabinetOf (returned-is r ∙ ap (outcomeOf (x .given)) (left-is run)) ∙ sym (ran-last calls x _)
+  left-is (followed {calls} {x = x} session r) = ap cabinetOf (returned-is r ∙ ap (outcomeOf (x .given)) (left-is session)) ∙ sym (ran-last calls x _)
 
-  -- the calls before any call of a run are a run
-  handed : {calls : List Exchange} {s : State} {area : List ℕ} → Run n b lent calls s area → (c : ExchangeIn calls) → Handed n b lent (c .before) (c .this)
+  -- the calls before any call of a session are a session
+  handed : {calls : List Exchange} {s : State} {area : List ℕ} → Session n b lent calls s area → (c : ExchangeIn calls) → Handed n b lent (c .before) (c .this)
   handed (begun p z) c = absurd (not-empty (c .this) (c .this) (c .before) (c .after) (c .here))
-  handed (followed {calls} {s} {area} {x} run r) c = go (λ d. handed run d) (last-or-earlier x (c .this) calls (c .before) (c .after) (c .here))
+  handed (followed {calls} {s} {area} {x} session r) c = go (λ d. handed session d) (last-or-earlier x (c .this) calls (c .before) (c .after) (c .here))
     where
       go : ((d : ExchangeIn calls) → Handed n b lent (d .before) (d .this)) → LastOrEarlier x (c .this) calls (c .before) → Handed n b lent (c .before) (c .this)
-      go earlier (inl (p, q)) = record { state = s; area = area; run = rw p at run; returned = rw q at r }
+      go earlier (inl (p, q)) = record { state = s; area = area; session = rw p at session; returned = rw q at r }
       go earlier (inr (later, p)) = earlier (record { before = c .before; this = c .this; after = later; here = p })
 
-  yielded-is : {calls : List Exchange} {s : State} {area : List ℕ} → Run n b lent calls s area → (c : ExchangeIn calls)
+  yielded-is : {calls : List Exchange} {s : State} {area : List ℕ} → Session n b lent calls s area → (c : ExchangeIn calls)
       → yielded (c .this) ≡ outcomeOf (c .this .given) (program n b lent (steps (c .before)))
-  yielded-is run c = let v = handed run c in returned-is (v .returned) ∙ ap (outcomeOf (c .this .given)) (left-is (v .run))
+  yielded-is session c = let v = handed session c in returned-is (v .returned) ∙ ap (outcomeOf (c .this .given)) (left-is (v .session))
 
-pub runs-are-histories : RunsAreHistories
-runs-are-histories n b lent calls s area run = record { done = format-done run; cabinet = left-is run; results = yielded-is run }
+pub sessions-are-histories : SessionsAreHistories
+sessions-are-histories n b lent calls s area session = record { done = format-done session; cabinet = left-is session; results = yielded-is session }
 
 -- the protocol's call, the last of the list up to it
 abbrev callOf : {calls : List Exchange} (c : ExchangeIn calls) → CallIn (steps (c .before) ++ (c .this .given ∷ []))
 callOf c = record { before = steps (c .before); this = c .this .given; after = []; here = refl }
 
-module _ {n b : ℕ} {lent : List ℕ} {calls : List Exchange} {s : State} {area : List ℕ} (run : Run n b lent calls s area) (c : ExchangeIn calls) where
+module _ {n b : ℕ} {lent : List ℕ} {calls : List Exchange} {s : State} {area : List ℕ} (session : Session n b lent calls s area) (c : ExchangeIn calls) where
   done : formatOutcome lent [] n b .answer .refusal ≡ 0
-  done = format-done run
+  done = format-done session
 
   demand : Demand3 n b lent (steps (c .before) ++ (c .this .given ∷ []))
   demand = demand-3 n b lent done _
 
   answer-is : c .this .answer ≡ result n b lent (callOf c) .answer
-  answer-is = ap (λ o. o .answer) (yielded-is run c)
+  answer-is = ap (λ o. o .answer) (yielded-is session c)
 
   -- a write, by what the reference's own cabinet makes of it
   module _ (k budget : ℕ) (is : c .this .given .call ≡ Write k budget) where
@@ -108,7 +108,7 @@ module _ {n b : ℕ} {lent : List ℕ} {calls : List Exchange} {s : State} {area
 
     refusal-is : c .this .answer .refusal ≡ refusalOf cabinet k budget bytes output
     unfolding perform
-    refusal-is = ap (λ o. o .answer .refusal) (yielded-is run c ∙ sym (result-is n b lent done (callOf c)) ∙ ap (λ call. perform call bytes output cabinet) is)
+    refusal-is = ap (λ o. o .answer .refusal) (yielded-is session c ∙ sym (result-is n b lent done (callOf c)) ∙ ap (λ call. perform call bytes output cabinet) is)
 
     book-is : reference n b c ≡ contentsLeft cabinet k budget bytes output (referenceBefore n b c)
     unfolding recorded
@@ -118,13 +118,13 @@ module _ {n b : ℕ} {lent : List ℕ} {calls : List Exchange} {s : State} {area
     counting = writes-count _ k budget _ _ _
 
 pub program-meets-demand-3 : ProgramMeetsDemand3
-program-meets-demand-3 n b lent calls s area run = record {
-  one-set = λ c budget is. rw (answer-is run c) (demand run c .one-set (callOf c) budget is);
-  right = λ c budget is. rw (answer-is run c, ap (λ o. o .area) (yielded-is run c)) (demand run c .right (callOf c) budget is);
-  finds = λ c budget is v. rw (answer-is run c, ap (λ w. w .state) (left-is (v .run))) (demand run c .finds (callOf c) budget is);
-  each-handed = handed run;
-  reads-right = λ c k is. rw (answer-is run c, ap (λ o. o .output) (yielded-is run c)) (reads-right n b lent (done run c) _ (callOf c) k is);
-  acknowledged = λ c k budget is. rw (refusal-is run c k budget is, book-is run c k budget is) (counting run c k budget is .acknowledged);
-  refused = λ c k budget is. rw (refusal-is run c k budget is, book-is run c k budget is) (counting run c k budget is .refused);
-  stays-sound = λ c. rw (answer-is run c) (soundness-kept .in-lists n b lent (done run c) _ (callOf c));
+program-meets-demand-3 n b lent calls s area session = record {
+  one-set = λ c budget is. rw (answer-is session c) (demand session c .one-set (callOf c) budget is);
+  right = λ c budget is. rw (answer-is session c, ap (λ o. o .area) (yielded-is session c)) (demand session c .right (callOf c) budget is);
+  finds = λ c budget is v. rw (answer-is session c, ap (λ w. w .state) (left-is (v .session))) (demand session c .finds (callOf c) budget is);
+  each-handed = handed session;
+  reads-right = λ c k is. rw (answer-is session c, ap (λ o. o .output) (yielded-is session c)) (reads-right n b lent (done session c) _ (callOf c) k is);
+  acknowledged = λ c k budget is. rw (refusal-is session c k budget is, book-is session c k budget is) (counting session c k budget is .acknowledged);
+  refused = λ c k budget is. rw (refusal-is session c k budget is, book-is session c k budget is) (counting session c k budget is .refused);
+  stays-sound = λ c. rw (answer-is session c) (soundness-kept .in-lists n b lent (done session c) _ (callOf c));
 }

@@ -20,7 +20,7 @@ use Rattle.protocol.specs.History.{Step, perform, outcomeOf}
 use Rattle.protocol.specs.Reference.{Contents, replaced, contentsAfter}
 use Rattle.protocol.specs.Demand3.{program}
 
--- ---- runs of the program's calls
+-- ---- sessions: calls one after the other
 
 -- One call as its caller sees it: what it was given beside the state and the disk area, its answer, and what the two buffers hold afterwards.
 pub record Exchange : Type 0 where
@@ -33,7 +33,7 @@ abbrev pub exchanged : Call → List ℕ → List ℕ → Answer → List ℕ �
 exchanged call bytes output r after left =
     record { given = record { call = call; bytes = bytes; output = output }; answer = r; area = after; output = left }
 
--- A function of this crate was given this state and area, and has kept its promise. Each premise is the `ensures` of one function and nothing more;
+-- A call was given this state and area, and has kept its promise. Each premise is the `ensures` of one function of src/ and nothing more;
 -- a buffer that a function is not lent, it cannot change.
 pub data Returned (s : State) (area : List ℕ) : Exchange → Type 0 where
   by-read : {k : ℕ} {bytes output left : List ℕ} {r : Answer}
@@ -66,13 +66,13 @@ pub data Returned (s : State) (area : List ℕ) : Exchange → Type 0 where
 
 -- "It starts from what one done fresh call gave. Each call gets the state and the disk area that the last one returned or left": calls in order, and
 -- the state and the area after the last of them.
-pub data Run (n b : ℕ) (lent : List ℕ) : List Exchange → State → List ℕ → Type 0 where
+pub data Session (n b : ℕ) (lent : List ℕ) : List Exchange → State → List ℕ → Type 0 where
   begun : {area : List ℕ} {r : Answer} → ((o : List ℕ) → record { answer = r; area = area; output = o } ≡ formatOutcome lent o n b)
-      → r .refusal ≡ 0 → Run n b lent [] (r .state) area
-  followed : {calls : List Exchange} {s : State} {area : List ℕ} {x : Exchange} → Run n b lent calls s area
-      → Returned s area x → Run n b lent (calls ++ (x ∷ [])) (x .answer .state) (x .area)
+      → r .refusal ≡ 0 → Session n b lent [] (r .state) area
+  followed : {calls : List Exchange} {s : State} {area : List ℕ} {x : Exchange} → Session n b lent calls s area
+      → Returned s area x → Session n b lent (calls ++ (x ∷ [])) (x .answer .state) (x .area)
 
--- ---- a call of a run
+-- ---- a call of a session
 
 pub record ExchangeIn (calls : List Exchange) : Type 0 where
   pub before : List Exchange
@@ -88,7 +88,7 @@ steps calls = map (λ x. x .given) calls
 pub record Handed (n b : ℕ) (lent : List ℕ) (before : List Exchange) (this : Exchange) : Type 0 where
   pub state : State
   pub area : List ℕ
-  pub run : Run n b lent before state area
+  pub session : Session n b lent before state area
   pub returned : Returned state area this
 
 -- what the book, the reference contents, has before it and after it
@@ -98,7 +98,7 @@ referenceBefore n b c = contentsAfter n b (steps (c .before))
 abbrev pub reference : (n b : ℕ) {calls : List Exchange} → ExchangeIn calls → Contents
 reference n b c = contentsAfter n b (steps (c .before) ++ (c .this .given ∷ []))
 
--- ---- a run is a history of the protocol
+-- ---- a session is a history of the protocol
 
 abbrev pub yielded : Exchange → Outcome
 yielded x = record { answer = x .answer; area = x .area; output = x .output }
@@ -106,13 +106,13 @@ yielded x = record { answer = x .answer; area = x .area; output = x .output }
 pub record IsHistory (n b : ℕ) (lent : List ℕ) (calls : List Exchange) (s : State) (area : List ℕ) : Type 0 where
   -- the list begins as Demand3Holds asks,
   pub done : formatOutcome lent [] n b .answer .refusal ≡ 0
-  -- leaves what the run left,
+  -- leaves what the session left,
   pub cabinet : record { state = s; area = area } ≡ program n b lent (steps calls)
   -- and each of its calls yields what the function returned
   pub results : (c : ExchangeIn calls) → yielded (c .this) ≡ outcomeOf (c .this .given) (program n b lent (steps (c .before)))
 
-abbrev pub RunsAreHistories : Type 0
-RunsAreHistories = (n b : ℕ) (lent : List ℕ) (calls : List Exchange) (s : State) (area : List ℕ) → Run n b lent calls s area → IsHistory n b lent calls s area
+abbrev pub SessionsAreHistories : Type 0
+SessionsAreHistories = (n b : ℕ) (lent : List ℕ) (calls : List Exchange) (s : State) (area : List ℕ) → Session n b lent calls s area → IsHistory n b lent calls s area
 
 -- ---- demand 3, of what the functions returned
 
@@ -140,4 +140,4 @@ pub record MeetsDemand3 (n b : ℕ) (lent : List ℕ) (calls : List Exchange) : 
   pub stays-sound : (c : ExchangeIn calls) → c .this .answer .refusal ≢ 1
 
 abbrev pub ProgramMeetsDemand3 : Type 0
-ProgramMeetsDemand3 = (n b : ℕ) (lent : List ℕ) (calls : List Exchange) (s : State) (area : List ℕ) → Run n b lent calls s area → MeetsDemand3 n b lent calls
+ProgramMeetsDemand3 = (n b : ℕ) (lent : List ℕ) (calls : List Exchange) (s : State) (area : List ℕ) → Session n b lent calls s area → MeetsDemand3 n b lent calls

@@ -40,14 +40,21 @@ ended-requires c κs = search needs
 returns : tie.Need-returns
 unfolding cleanList
 returns c area output =
-    let start = c .before .before .before .before .before .before .before .before .before in
+    let at-current = c .before in
+    let at-clears = at-current .before in
+    let begun = at-clears .before in
+    let at-length = begun .before in
+    let at-regions = at-length .before in
+    let at-live = at-regions .before in
+    let sized = at-live .before in
+    let start = sized .before .before in
     let s = start .args .s in
-    let live = c .before .before .before .before .before .before .live .ensures in
-    let size = c .before .before .before .before .before .before .before .size-of .ensures in
-    let regions = c .before .before .before .before .before .regions .ensures in
-    let cleared = rw (regions, size, live, c .before .before .before .started .ensures) at (c .before .before .clear-standing .ensures (s .blocks) area) in
-    let length = rw (regions, size, live) at (c .before .before .before .before .standing .ensures) in
-    rw (c .ended .ensures, c .before .current .ensures) (carried s _ _ (start .args .budget) _ area _ output cleared _ length)
+    let live = at-live .live .ensures in
+    let size = sized .size-of .ensures in
+    let regions = at-regions .regions .ensures in
+    let cleared = rw (regions, size, live, begun .started .ensures) at (at-clears .clear-standing .ensures (s .blocks) area) in
+    let length = rw (regions, size, live) at (at-length .standing .ensures) in
+    rw (c .ended .ensures, at-current .current .ensures) (carried s _ _ (start .args .budget) _ area _ output cleared _ length)
 
 pub clean-stores-spec : {M : Type 1} → statement M
 clean-stores-spec =

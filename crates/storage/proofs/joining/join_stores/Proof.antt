@@ -28,37 +28,52 @@ live-length-requires : tie.Need-live-length-requires
 live-length-requires c κs = search needs
 
 add-stores : tie.Need-add-stores
-add-stores c = rw (c .before .before .before .before .before .before .size-of .ensures) (omega (arith, c .before .before .before .before .before .before .before .before .pre .0 .fit .range .blocks))
+add-stores c =
+    let sized = c .before .before .before .before .before .before in
+    let start = sized .before .before in
+    rw (sized .size-of .ensures) (omega (arith, start .pre .0 .fit .range .blocks))
 
 move-length-requires : tie.Need-move-length-requires
 move-length-requires c κs = search needs
 
 add-stores-2 : tie.Need-add-stores-2
-add-stores-2 c = rw (c .before .before .before .before .before .before .before .size-of .ensures) (omega (arith, c .before .before .before .before .before .before .before .before .before .pre .0 .fit .range .blocks))
+add-stores-2 c =
+    let sized = c .before .before .before .before .before .before .before in
+    let start = sized .before .before in
+    rw (sized .size-of .ensures) (omega (arith, start .pre .0 .fit .range .blocks))
 
 started-requires : tie.Need-started-requires
 started-requires c κs = search needs
 
 move-to-live-requires : tie.Need-move-to-live-requires
-move-to-live-requires c κs = rw (c .before .before .before .before .before .before .before .before .size-of .ensures) (c .before .before .before .before .before .before .before .before .before .before .pre .0 .fit .range .disks)
+move-to-live-requires c κs =
+    let sized = c .before .before .before .before .before .before .before .before in
+    let start = sized .before .before in
+    rw (sized .size-of .ensures) (start .pre .0 .fit .range .disks)
 
 source-requires : tie.Need-source-requires
 source-requires c κs = search needs
 
 copy-blocks-requires : tie.Need-copy-blocks-requires
 copy-blocks-requires c κs =
-    let start = c .before .before .before .before .before .before .before .before .before .before .before .before .before in
-    let live = c .before .before .before .before .before .before .before .before .before .live .ensures in
+    let at-new = c .before .before .before .before .before .before .before .before in
+    let at-live = at-new .before in
+    let sized = at-live .before .before in
+    let start = sized .before .before in
     let s = start .args .s in
-    rw (c .before .before .before .before .before .before .before .before .before .before .before .size-of .ensures, c .source .ensures, live, c .before .before .before .before .before .before .before .before .singleton .ensures) (
-      record { disks = start .pre .0 .fit .range .disks; blocks = start .pre .0 .fit .range .blocks; size = start .pre .0 .size },
-      source-known (s .disks) _ (start .pre .1) (live-known s (start .pre .0 .fit)),
+    let fit = start .pre .0 .fit in
+    rw (sized .size-of .ensures, c .source .ensures, at-live .live .ensures, at-new .singleton .ensures) (
+      record { disks = fit .range .disks; blocks = fit .range .blocks; size = start .pre .0 .size },
+      source-known (s .disks) _ (start .pre .1) (live-known s fit),
       source-other s _ (start .pre .1) (start .pre .3),
       omega arith,
     )
 
 move-to-requires : tie.Need-move-to-requires
-move-to-requires c κs = rw (c .before .before .before .before .before .before .before .before .before .before .before .before .before .before .size-of .ensures) (c .before .before .before .before .before .before .before .before .before .before .before .before .before .before .before .before .pre .0 .fit .range .disks)
+move-to-requires c κs =
+    let sized = c .before .before .before .before .before .before .before .before .before .before .before .before .before .before in
+    let start = sized .before .before in
+    rw (sized .size-of .ensures) (start .pre .0 .fit .range .disks)
 
 ended-requires : tie.Need-ended-requires
 ended-requires c κs = search needs
@@ -68,21 +83,34 @@ same-length c = search needs
 
 returns : tie.Need-returns
 returns c output =
-    let start = c .before .before .before .before .before .before .before .before .before .before .before .before .before .before .before .before .before .before in
+    let at-last = c .before in
+    let at-copies = at-last .before .before .before in
+    let at-source = at-copies .before in
+    let at-move = at-source .before .before in
+    let begun = at-move .before in
+    let at-end = begun .before in
+    let at-length = at-end .before .before in
+    let at-joined = at-length .before in
+    let at-new = at-joined .before in
+    let at-live = at-new .before in
+    let at-current = at-live .before in
+    let sized = at-current .before in
+    let start = sized .before .before in
     let s = start .args .s in
     let d = start .args .d in
     let area = start .args .area .now in
     let fit = start .pre .0 .fit in
-    let live = c .before .before .before .before .before .before .before .before .before .before .before .before .before .before .live .ensures in
-    let size = c .before .before .before .before .before .before .before .before .before .before .before .before .before .before .before .before .size-of .ensures in
-    let current = c .before .before .before .before .before .before .before .before .before .before .before .before .before .before .before .current .ensures in
-    let new = c .before .before .before .before .before .before .before .before .before .before .before .before .before .singleton .ensures in
-    let joined = c .before .before .before .before .before .before .before .before .before .before .before .before .union .ensures in
-    let moved = rw (size, live, current, c .before .before .before .before .before .before .before .before .started .ensures) at (c .before .before .before .before .before .before .before .move-to-live .ensures (s .blocks) area) in
-    let filled = rw (size, c .before .before .before .before .before .source .ensures, live, new) at (c .before .before .before .before .copy-blocks .ensures) in
-    let last = rw (size, joined, live, new) at (c .before .move-to .ensures (s .blocks) (c .before .before .before .before .copy-blocks .last .1 .0)) in
-    let moves = rw (live, current) at (c .before .before .before .before .before .before .before .before .before .before .before .live-length .ensures .0 (s .disks) (rw live (live-known s fit))) in
-    let ends = rw (joined, live, new) at (c .before .before .before .before .before .before .before .before .before .move-length .ensures .0 (s .disks) (rw (joined, live, new) (below-with _ d (s .disks) (live-known s fit) (start .pre .2)))) in
+    let live = at-live .live .ensures in
+    let size = sized .size-of .ensures in
+    let current = at-current .current .ensures in
+    let new = at-new .singleton .ensures in
+    let joined = at-joined .union .ensures in
+    let moved = rw (size, live, current, begun .started .ensures) at (at-move .move-to-live .ensures (s .blocks) area) in
+    let filled = rw (size, at-source .source .ensures, live, new) at (at-copies .copy-blocks .ensures) in
+    let last = rw (size, joined, live, new) at (at-last .move-to .ensures (s .blocks) (at-copies .copy-blocks .last .1 .0)) in
+    let moves = rw (live, current) at (at-length .live-length .ensures .0 (s .disks) (rw live (live-known s fit))) in
+    let known = below-with _ d (s .disks) (live-known s fit) (start .pre .2) in
+    let ends = rw (joined, live, new) at (at-end .move-length .ensures .0 (s .disks) (rw (joined, live, new) known)) in
     rw (c .ended .ensures, joined, live, new)
     (carried s _ _ (start .args .budget) _ area _ output (join-ran s d (start .pre .2) _ moved filled last) _
     (rw size (omega (arith, moves, ends, join-length s d (start .pre .2)))))

@@ -34,10 +34,12 @@ others-requires c κs = search needs
 copy-blocks-requires : tie.Need-copy-blocks-requires
 unfolding regions
 copy-blocks-requires c κs =
-    let start = c .before .before .before .before .before .before .before in
+    let at-blocks = c .before .before .before in
+    let start = at-blocks .before .before .before .before in
     let a = start .args in
-    rw (c .others .ensures, c .before .source .ensures, c .before .before .before .region-blocks .ensures)
-    (start .pre .0, source-known (a .size .disks) (a .set) (start .pre .1) (start .pre .2), source-apart (a .set), region-inside (a .size .blocks) (a .r) (omega (arith, start .pre .3)))
+    let known = source-known (a .size .disks) (a .set) (start .pre .1) (start .pre .2) in
+    let inside = region-inside (a .size .blocks) (a .r) (omega (arith, start .pre .3)) in
+    rw (c .others .ensures, c .before .source .ensures, at-blocks .region-blocks .ensures) (start .pre .0, known, source-apart (a .set), inside)
 
 store-labels-requires : tie.Need-store-labels-requires
 unfolding regions
@@ -50,10 +52,16 @@ same-length c = search needs
 
 returns-2 : tie.Need-returns-2
 returns-2 c =
-    let a = c .before .before .before .before .before .before .before .before .before .before .before .args in
-    let copied = rw (c .before .before .before .before .others .ensures, c .before .before .before .before .before .source .ensures, c .before .before .before .before .before .before .before .region-blocks .ensures)
-    at (c .before .before .before .copy-blocks .ensures) in
-    rw (sym (c .before .before .before .before .before .before .before .before .before .is-dirty .ensures) ∙ not-false _ (c .before .before .before .before .before .before .before .before .if1 .left))
+    let at-copies = c .before .before .before in
+    let at-others = at-copies .before in
+    let at-source = at-others .before in
+    let at-blocks = at-source .before .before in
+    let branch = at-blocks .before in
+    let at-dirty = branch .before in
+    let start = at-dirty .before .before in
+    let a = start .args in
+    let copied = rw (at-others .others .ensures, at-source .source .ensures, at-blocks .region-blocks .ensures) at (at-copies .copy-blocks .ensures) in
+    rw (sym (at-dirty .is-dirty .ensures) ∙ not-false _ (branch .if1 .left))
     (mend-ran (a .size .disks) (a .size .blocks) (a .set) (a .r) _ copied (c .store-labels .ensures (a .size .blocks) _))
 
 pub mend-spec : {M : Type 1} → statement M

@@ -34,12 +34,18 @@ add-result c =
 
 returns : tie.Need-returns
 returns c =
-    let a = c .before .before .before .before .before .before .args in
-    let pre = c .before .before .before .before .before .before .pre in
-    let blocks = c .before .before .before .region-blocks in
-    let others = rw (c .before .before .others .ensures) at (c .before .count .ensures .0) in (
-      rw (sym (c .before .before .before .before .before .is-dirty .ensures) ∙ c .before .before .before .before .if1 .taken, mend-size (a .size .disks) (a .size .blocks) (a .set) (a .r) (pre .1), blocks .ensures, others, c .count2 .ensures .0),
-      omega (arith, mend-most (blocks .result) (c .before .count .result) (rw (blocks .ensures) (region-short _ _)) (c .before .count .ensures .1)),
+    let at-count = c .before in
+    let at-others = at-count .before in
+    let at-blocks = at-others .before in
+    let branch = at-blocks .before in
+    let at-dirty = branch .before in
+    let start = at-dirty .before in
+    let a = start .args in
+    let dirty = sym (at-dirty .is-dirty .ensures) ∙ branch .if1 .taken in
+    let blocks = at-blocks .region-blocks .ensures in
+    let others = rw (at-others .others .ensures) at (at-count .count .ensures .0) in (
+      rw (dirty, mend-size (a .size .disks) (a .size .blocks) (a .set) (a .r) (start .pre .1), blocks, others, c .count2 .ensures .0),
+      omega (arith, mend-most (at-blocks .region-blocks .result) (at-count .count .result) (rw blocks (region-short _ _)) (at-count .count .ensures .1)),
     )
 
 returns-2 : tie.Need-returns-2

@@ -28,12 +28,17 @@ started-requires c κs = search needs
 
 mend-all-requires : tie.Need-mend-all-requires
 mend-all-requires c κs =
-    let start = c .before .before .before .before .before .before .before in
-    rw (c .before .before .before .before .size-of .ensures)
-    (record { disks = start .pre .0 .fit .range .disks; blocks = start .pre .0 .fit .range .blocks; size = start .pre .0 .size }, start .pre .1, start .pre .2)
+    let sized = c .before .before .before .before in
+    let start = sized .before .before .before in
+    let fit = start .pre .0 .fit in
+    rw (sized .size-of .ensures)
+    (record { disks = fit .range .disks; blocks = fit .range .blocks; size = start .pre .0 .size }, start .pre .1, start .pre .2)
 
 store-labels-requires : tie.Need-store-labels-requires
-store-labels-requires c κs = (rw (c .before .before .before .before .before .before .before .size-of .ensures) (c .before .before .before .before .before .before .before .before .before .before .pre .0 .fit .range .disks), tt)
+store-labels-requires c κs =
+    let sized = c .before .before .before .before .before .before .before in
+    let start = sized .before .before .before in
+    (rw (sized .size-of .ensures) (start .pre .0 .fit .range .disks), tt)
 
 ended-requires : tie.Need-ended-requires
 ended-requires c κs = search needs
@@ -44,17 +49,25 @@ same-length c = search needs
 returns : tie.Need-returns
 unfolding restartList commits
 returns c output =
-    let start = c .before .before .before .before .before .before .before .before .before .before .before .before in
+    let at-labels = c .before in
+    let at-mends = at-labels .before .before .before in
+    let begun = at-mends .before .before in
+    let at-count = begun .before in
+    let at-length = at-count .before in
+    let sized = at-length .before in
+    let start = sized .before .before .before in
     let s = start .args .s in
     let set = start .args .set in
     let area = start .args .area .now in
-    let size = c .before .before .before .before .before .before .before .before .before .size-of .ensures in
-    let mended = rw (size, c .before .before .before .before .before .before .started .ensures) at (c .before .before .before .before .mend-all .ensures) in
-    let committed = rw size at (c .before .store-labels .ensures (s .blocks) (c .before .before .before .before .mend-all .last .1 .0)) in
-    let length = rw size at (c .before .before .before .before .before .before .before .before .mends-length .ensures .0) in
+    let size = sized .size-of .ensures in
+    let mending = mends (s .disks) (s .blocks) (s .labels) set in
+    let mended = rw (size, begun .started .ensures) at (at-mends .mend-all .ensures) in
+    let committed = rw size at (at-labels .store-labels .ensures (s .blocks) (at-mends .mend-all .last .1 .0)) in
+    let length = rw size at (at-length .mends-length .ensures .0) in
+    let members = commits-size (s .disks) set (start .pre .2) in
     rw (c .ended .ensures)
-    (carried s _ _ (start .args .budget) _ area _ output (in-sequence (s .blocks) (mends (s .disks) (s .blocks) (s .labels) set) _ _ mended committed) _
-    (omega (arith, length, c .before .before .before .before .before .before .before .count .ensures .0, commits-size (s .disks) set (start .pre .2), length-append (mends (s .disks) (s .blocks) (s .labels) set) (commits (s .disks) set))))
+    (carried s _ _ (start .args .budget) _ area _ output (in-sequence (s .blocks) mending _ _ mended committed) _
+    (omega (arith, length, at-count .count .ensures .0, members, length-append mending (commits (s .disks) set))))
 
 pub restart-stores-spec : {M : Type 1} → statement M
 restart-stores-spec =

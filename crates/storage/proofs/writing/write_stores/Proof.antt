@@ -41,17 +41,22 @@ started-requires : tie.Need-started-requires
 started-requires c κs = search needs
 
 move-to-live-requires : tie.Need-move-to-live-requires
-move-to-live-requires c κs = rw (c .before .before .before .before .before .before .before .before .size-of .ensures) (c .before .before .before .before .before .before .before .before .before .before .before .before .pre .0 .fit .range .disks)
+move-to-live-requires c κs =
+    let sized = c .before .before .before .before .before .before .before .before in
+    let start = sized .before .before .before .before in
+    rw (sized .size-of .ensures) (start .pre .0 .fit .range .disks)
 
 store-labels-requires : tie.Need-store-labels-requires
 store-labels-requires c κs =
-    let start = c .before .before .before .before .before .before .before .before .before .before .before .before .before in
-    (rw (c .before .before .before .before .before .before .before .before .before .size-of .ensures) (start .pre .0 .fit .range .disks), omega (arith, start .pre .0 .fit .range .blocks, start .pre .1))
+    let sized = c .before .before .before .before .before .before .before .before .before in
+    let start = sized .before .before .before .before in
+    (rw (sized .size-of .ensures) (start .pre .0 .fit .range .disks), omega (arith, start .pre .0 .fit .range .blocks, start .pre .1))
 
 store-blocks-requires : tie.Need-store-blocks-requires
 store-blocks-requires c κs =
-    let start = c .before .before .before .before .before .before .before .before .before .before .before .before .before .before .before in
-    rw (c .before .before .before .before .before .before .before .before .before .before .before .size-of .ensures)
+    let sized = c .before .before .before .before .before .before .before .before .before .before .before in
+    let start = sized .before .before .before .before in
+    rw (sized .size-of .ensures)
     (record { disks = start .pre .0 .fit .range .disks; blocks = start .pre .0 .fit .range .blocks; size = start .pre .0 .size }, start .pre .1, start .pre .2)
 
 ended-requires : tie.Need-ended-requires
@@ -63,25 +68,38 @@ same-length c = search needs
 returns : tie.Need-returns
 unfolding regionOf
 returns c output =
-    let found = c .before .before .before .before .before .before .before .before .before .before .before .before .before in
-    let start = found .before .before .before .before .before .before in
+    let at-blocks = c .before .before .before in
+    let at-labels = at-blocks .before .before in
+    let at-move = at-labels .before in
+    let begun = at-move .before in
+    let at-count2 = begun .before in
+    let at-count = at-count2 .before in
+    let at-length = at-count .before in
+    let at-unmarked = at-length .before in
+    let at-dirty = at-unmarked .before in
+    let at-live = at-dirty .before in
+    let at-current = at-live .before in
+    let sized = at-current .before in
+    let start = sized .before .before .before .before in
     let s = start .args .s in
+    let k = start .args .k in
+    let bytes = start .args .bytes .now in
     let area = start .args .area .now in
     let fit = start .pre .0 .fit in
-    let live = found .live .ensures in
-    let size = found .before .before .size-of .ensures in
-    let current = found .before .current .ensures in
-    let unmarked = c .before .before .before .before .before .before .before .before .before .before .before .difference .ensures in
-    let dirty = c .before .before .before .before .before .before .before .before .before .before .before .before .dirty-disks .ensures in
-    let moved = rw (size, live, current, c .before .before .before .before .before .before .before .started .ensures) at (c .before .before .before .before .before .before .move-to-live .ensures (s .blocks) area) in
-    let marked = rw (size, unmarked, live, dirty, size) at (c .before .before .before .before .before .store-labels .ensures (s .blocks) area) in
-    let stored = rw (size, live) at (c .before .before .before .store-blocks .ensures) in
-    let moves = rw (live, current) at (c .before .before .before .before .before .before .before .before .before .before .live-length .ensures .0 (s .disks) (rw live (live-known s fit))) in
-    let marks = rw (unmarked, live, dirty, size) at (c .before .before .before .before .before .before .before .before .before .count .ensures .0) in
-    let blocks = rw live at (c .before .before .before .before .before .before .before .before .count2 .ensures .0) in
+    let live = at-live .live .ensures in
+    let size = sized .size-of .ensures in
+    let current = at-current .current .ensures in
+    let unmarked = at-unmarked .difference .ensures in
+    let dirty = at-dirty .dirty-disks .ensures in
+    let moved = rw (size, live, current, begun .started .ensures) at (at-move .move-to-live .ensures (s .blocks) area) in
+    let marked = rw (size, unmarked, live, dirty, size) at (at-labels .store-labels .ensures (s .blocks) area) in
+    let stored = rw (size, live) at (at-blocks .store-blocks .ensures) in
+    let moves = rw (live, current) at (at-length .live-length .ensures .0 (s .disks) (rw live (live-known s fit))) in
+    let marks = rw (unmarked, live, dirty, size) at (at-count .count .ensures .0) in
+    let blocks = rw live at (at-count2 .count2 .ensures .0) in
     rw (c .ended .ensures, live)
-    (carried s _ _ (start .args .budget) _ area _ output (write-ran s (start .args .k) (start .args .bytes .now) _ moved marked stored) _
-    (omega (arith, moves, marks, blocks, write-length s (start .args .k) (start .args .bytes .now) fit)))
+    (carried s _ _ (start .args .budget) _ area _ output (write-ran s k bytes _ moved marked stored) _
+    (omega (arith, moves, marks, blocks, write-length s k bytes fit)))
 
 pub write-stores-spec : {M : Type 1} → statement M
 write-stores-spec =
