@@ -7,10 +7,10 @@ use mathlib.Core.List.{List}
 use Prim.Native.Nat.{ℕ, _^_, _<_}
 use lib.Dec.{eqb}
 use borrow.Author.Tests.{eqb-true, eq-eqb, lt-ltb}
-use Rattle.sets.specs.Sets.{has, all}
+use Rattle.sets.specs.Sets.{has, all, below}
 use Rattle.sets.proofs.Tests.{Test, passes, fails, test, clash}
 use Rattle.sets.proofs.Operations.{has-all}
-use Rattle.sets.proofs.Bounds.{member-below}
+use Rattle.sets.proofs.Bounds.{member-below, below-pow}
 use Rattle.sets.proofs.LowestMember.{lowest-has}
 use Rattle.label.specs.declared.Label.{Label}
 use Rattle.protocol.specs.Loops.{some}
@@ -33,6 +33,10 @@ pub record Backed (labels : List Label) (x : ℕ) : Type 0 where
 pub source-has : (x : ℕ) → 0 < x → has x (source x) ≡ true
 unfolding source
 source-has = lowest-has
+
+-- so it is below n
+pub source-known : (n set : ℕ) → 0 < set → below set n ≡ true → source set < n
+source-known n set filled known = member-below set n (source set) (below-pow set n .0 known) (source-has set filled)
 
 -- ---- labels of a running cabinet, and of one that may be restarted
 

@@ -10,15 +10,17 @@ use lib.Dec.{eqb, leb, ltb}
 use borrow.Author.Tests.{leb-true, le-leb, eqb-true, eq-eqb, ltb-true, lt-ltb, le-ltb}
 use Rattle.sets.specs.Sets.{has, below}
 use Rattle.sets.proofs.Tests.{and-parts, or-either, implied, implies}
+use Rattle.sets.proofs.Bounds.{below-intersection}
 use Rattle.label.specs.declared.Label.{Label}
 use Rattle.label.specs.Form.{narrow}
 use Rattle.label.specs.Refusals.{outside}
 use Rattle.protocol.specs.declared.Power.{Power}
 use Rattle.protocol.specs.declared.Power.the-variants.{Stopped, Running}
+use Rattle.protocol.specs.declared.State.{State}
 use Rattle.protocol.specs.Geometry.{mostDisks, mostBlocks, regions}
 use Rattle.protocol.specs.Loops.{allBelow}
-use Rattle.protocol.specs.States.{blank, labelAt}
-use Rattle.protocol.specs.Soundness.{InRange, FitSet, FitLabel, FitLabels, FitPower, inRange, fitSet, fitLabel, isBlank, fitLabels, fitMember, fitPower, sound, TestAgrees}
+use Rattle.protocol.specs.States.{blank, labelAt, currentOf, live}
+use Rattle.protocol.specs.Soundness.{Sound, InRange, FitSet, FitLabel, FitLabels, FitPower, inRange, fitSet, fitLabel, isBlank, fitLabels, fitMember, fitPower, sound, TestAgrees}
 use Rattle.protocol.proofs.Loops.{all-at, all-of}
 
 in-range : (n b : ℕ) → (inRange n b ≡ true) ↔ InRange n b
@@ -131,3 +133,7 @@ test-agrees s = (
         fit-power (s .disks) (s .labels) (s .power) .1 (h .power),
       ),
 )
+
+-- L names only disks below n
+pub live-known : (s : State) → Sound s → below (live s) (s .disks) ≡ true
+live-known s fit = below-intersection (currentOf (s .power)) (s .online) (s .disks) (fit .online)

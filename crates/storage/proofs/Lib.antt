@@ -1,9 +1,4 @@
-pub mod DirtyDisks
-pub mod RegionBlocks
-pub mod Carrying
-pub mod Lengths
+-- The laws of read, write and join.
 pub mod WriteList
 pub mod JoinList
-pub mod RestartList
 pub mod Passed
-pub mod SoundFirst

@@ -1,29 +1,25 @@
 -- What a call that is not refused knows, before its first store. Assumes nothing.
 use mathlib.Core.Path.{_≡_, refl, _∙_}
-use mathlib.Core.Bool.{true, false}
+use mathlib.Core.Bool.{false}
 use mathlib.Core.List.{List}
 use Prim.Native.Nat.{ℕ, _<_}
 use lib.ListN.{length}
 use borrow.Author.Tests.{eqb-true, not-false}
-use Rattle.sets.specs.Sets.{has, below}
+use Rattle.sets.specs.Sets.{has}
 use Rattle.sets.proofs.Operations.{has-intersection}
-use Rattle.sets.proofs.Bounds.{below-inside}
 use Rattle.label.specs.Refusals.{firstOf}
 use Rattle.label.proofs.Order.{none-at}
 use Rattle.protocol.specs.declared.State.{State}
 use Rattle.protocol.specs.Geometry.{blockSize}
 use Rattle.protocol.specs.States.{currentOf, live, source}
-use Rattle.protocol.specs.Soundness.{Sound}
-use Rattle.protocol.specs.Calls.{theSet, foundBy, blockRefusals, joinRefusals, cleanRefusals, restartRefusals}
+use Rattle.protocol.specs.Calls.{blockRefusals, joinRefusals}
 use Rattle.protocol.proofs.Soundness.{test-agrees}
-use Rattle.protocol.proofs.Naming.{found-names}
-use Rattle.protocol.proofs.Passing.{block-passed, join-passed, restart-passed}
-use Rattle.protocol.proofs.SoundCalls.{set-found}
+use Rattle.protocol.proofs.Passing.{block-passed, join-passed}
 use Rattle.area.specs.Parts.{InArea}
 use Rattle.stores.proofs.Copying.{in-area}
-use Rattle.storage.specs.Ready.{Ready}
-use Rattle.storage.proofs.WriteList.{live-known}
-use Rattle.storage.proofs.RestartList.{source-known}
+use Rattle.tally.specs.Ready.{Ready}
+use Rattle.protocol.proofs.Soundness.{live-known}
+use Rattle.protocol.proofs.Backing.{source-known}
 
 -- read and write
 module _ (s : State) (area : List ℕ) (k : ℕ) (bytes : List ℕ) (e : firstOf (blockRefusals s area k bytes) ≡ 0) where
@@ -51,19 +47,4 @@ join-ready s area d e =
       pass .some,
       pass .known,
       has-intersection (currentOf (s .power)) (s .online) d ∙ rw (no 5),
-    )
-
-pub clean-ready : (s : State) → firstOf (cleanRefusals s) ≡ 0 → Sound s
-unfolding cleanRefusals
-clean-ready s e = test-agrees s .0 (not-false _ (none-at (cleanRefusals s) refl e 0))
-
-pub restart-ready : (s : State) (area : List ℕ) → firstOf (restartRefusals s area) ≡ 0
-    → Ready s area × (0 < theSet (foundBy s)) × (below (theSet (foundBy s)) (s .disks) ≡ true)
-unfolding restartRefusals
-restart-ready s area e =
-    let pass = restart-passed s area e in
-    let (filled, inside) = set-found (foundBy s) (found-names s (pass .fit)) (pass .names) in (
-      record { fit = pass .fit; size = eqb-true _ _ (not-false _ (none-at (restartRefusals s area) refl e 1)) },
-      filled,
-      below-inside (theSet (foundBy s)) (s .online) (s .disks) inside (pass .fit .online),
     )

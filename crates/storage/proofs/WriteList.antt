@@ -1,12 +1,11 @@
 -- A write's list, as code makes it: the move, the bits on the disks that lack them, the blocks. Assumes nothing.
 use mathlib.Core.Path.{_≡_}
-use mathlib.Core.Bool.{true}
 use mathlib.Core.List.{List, [], _∷_, _++_}
 use Prim.Native.Nat.{ℕ, _+_}
 use native.Mathlib.Omega.{arith}
 use lib.ListN.{length, length-append}
-use Rattle.sets.specs.Sets.{below, size, difference}
-use Rattle.sets.proofs.Bounds.{below-intersection, below-difference}
+use Rattle.sets.specs.Sets.{size, difference}
+use Rattle.sets.proofs.Bounds.{below-difference}
 use Rattle.protocol.specs.declared.State.{State}
 use Rattle.protocol.specs.Geometry.{regionOf}
 use Rattle.protocol.specs.Loops.{forEach}
@@ -15,13 +14,11 @@ use Rattle.protocol.specs.Soundness.{Sound}
 use Rattle.protocol.specs.Stores.{write, mark}
 use Rattle.protocol.specs.Lists.{moveToLive, marks, blockStores, preparations, writeList}
 use Rattle.protocol.proofs.Loops.{for-length}
+use Rattle.protocol.proofs.Soundness.{live-known}
 use Rattle.stores.specs.Runs.{Progress, steps}
 use Rattle.stores.proofs.Runs.{in-sequence}
-use Rattle.storage.specs.Regions.{dirtyDisks}
-use Rattle.storage.proofs.DirtyDisks.{where-lacks}
-
-pub live-known : (s : State) → Sound s → below (live s) (s .disks) ≡ true
-live-known s fit = below-intersection (currentOf (s .power)) (s .online) (s .disks) (fit .online)
+use Rattle.tally.specs.DirtyDisks.{dirtyDisks}
+use Rattle.tally.proofs.DirtyDisks.{where-lacks}
 
 module _ (s : State) (k : ℕ) (bytes : List ℕ) where
   -- the disks of L where the bit does not stand

@@ -8,10 +8,7 @@ ghost use Rattle.protocol.specs.States.{live};
 ghost use Rattle.protocol.specs.Lists.{joinList};
 ghost use Rattle.protocol.specs.Outcomes.{carryOut};
 ghost use Rattle.protocol.specs.Calls.{joinOutcome};
-ghost use Rattle.storage.specs.Ready.{Ready};
-use crate::ending::ended;
-use crate::ending::size_of;
-use crate::ending::started;
+ghost use Rattle.tally.specs.Ready.{Ready};
 use crate::moves::live_length;
 use crate::moves::move_length;
 use crate::moves::move_to;
@@ -20,6 +17,9 @@ use crate::refusals::join_refusal;
 use protocol::Answer;
 use protocol::State;
 use state::without_stores;
+use tally::ended;
+use tally::size_of;
+use tally::started;
 
 // "if L differs from G, move to L. Copy all blocks, ascending, from the lowest member of L to d. Then move to L with d."
 fn join_stores(s: State, area: &mut [u8], d: usize, budget: u16) -> Answer

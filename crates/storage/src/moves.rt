@@ -8,11 +8,11 @@ ghost use Rattle.sets.specs.Sets.{below};
 ghost use Rattle.protocol.specs.Geometry.{mostDisks};
 ghost use Rattle.protocol.specs.Lists.{move, moveToLive};
 ghost use Rattle.stores.specs.Runs.{progress, steps};
-use crate::counts::count;
 use sets::DISKS;
 use sets::Mask;
 use stores::Change;
 use stores::Run;
+use tally::count;
 
 // "for each disk of S, ascending, store T = S; then for each disk of S, ascending, store C = S and T = 0"
 pub(crate) fn move_to(run: Run, n: usize, set: Mask) -> Run

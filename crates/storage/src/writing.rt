@@ -8,20 +8,20 @@ ghost use Rattle.protocol.specs.States.{live};
 ghost use Rattle.protocol.specs.Lists.{writeList};
 ghost use Rattle.protocol.specs.Outcomes.{carryOut};
 ghost use Rattle.protocol.specs.Calls.{writeOutcome};
-ghost use Rattle.storage.specs.Ready.{Ready};
-use crate::counts::count;
-use crate::ending::ended;
-use crate::ending::size_of;
-use crate::ending::started;
+ghost use Rattle.tally.specs.Ready.{Ready};
 use crate::moves::live_length;
 use crate::moves::move_to_live;
 use crate::refusals::block_refusal;
-use crate::regions::dirty_disks;
 use protocol::Answer;
 use protocol::State;
 use protocol::geometry::REGION_SIZE;
 use state::without_stores;
 use stores::Change;
+use tally::count;
+use tally::dirty_disks;
+use tally::ended;
+use tally::size_of;
+use tally::started;
 
 // "if L differs from G, move to L. Then set the region's dirty bit on each disk of L, ascending, where it does not stand.
 // Then store the block on each disk of L, ascending."

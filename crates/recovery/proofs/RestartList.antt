@@ -1,0 +1,56 @@
+-- A restart's list, region by region, as code makes it. Assumes nothing.
+use mathlib.Core.Path.{_≡_, refl, ap, _∙_}
+use mathlib.Core.Bool.{true, false, and-false}
+use mathlib.Core.List.{List, [], _∷_}
+use Prim.Native.Nat.{ℕ, _+_, _*_, _≤_}
+use native.Mathlib.Nat.{mul-comm, mul-le-mul-right}
+use native.Mathlib.Omega.{arith}
+use lib.ListN.{length, length-append}
+use borrow.Author.Tests.{eq-eqb}
+use Rattle.sets.specs.Sets.{has, below, size, difference, singleton}
+use Rattle.sets.proofs.Bounds.{below-difference}
+use Rattle.sets.proofs.Operations.{has-difference, has-singleton}
+use Rattle.protocol.specs.Geometry.{mostDisks, regionSize}
+use Rattle.protocol.specs.Loops.{ascending, forEach}
+use Rattle.protocol.specs.States.{source}
+use Rattle.protocol.specs.Stores.{Store, copy, clear}
+use Rattle.protocol.specs.Lists.{copies, clears, mend}
+use Rattle.protocol.proofs.Loops.{for-length}
+use Rattle.protocol.proofs.Turns.{even-length}
+use Rattle.stores.specs.Runs.{Progress, steps}
+use Rattle.stores.proofs.Runs.{in-sequence}
+use Rattle.recovery.specs.Regions.{regionBlocks, others}
+use Rattle.recovery.proofs.RegionBlocks.{region-loop}
+
+-- the source of a set is not one of the others
+pub source-apart : (set : ℕ) → has (others set) (source set) ≡ false
+unfolding others
+source-apart set =
+    has-difference set (singleton (source set)) (source set)
+    ∙ rw (has-singleton (source set) (source set), eq-eqb (source set) (source set) refl) (and-false (has set (source set)))
+
+-- the copies of a region are no more than a region's blocks times the disks
+pub mend-most : (blocks count : ℕ) → blocks ≤ regionSize → count ≤ mostDisks → blocks * count ≤ regionSize * mostDisks
+mend-most blocks count few members = omega (arith, mul-le-mul-right count few)
+
+module _ (n b set r : ℕ) where
+  -- the copies of region r
+  abbrev pub copiesOf : ℕ → List Store
+  copiesOf i = forEach n (others set) (λ d. copy (source set) d (r * regionSize + i) ∷ [])
+
+  copies-loop : copies n b set r ≡ ascending (regionBlocks b r) copiesOf
+  unfolding copies others
+  copies-loop = region-loop b r (λ k. forEach n (difference set (singleton (source set))) (λ d. copy (source set) d k ∷ []))
+
+  pub mend-ran : (p : Progress) {q t : Progress} → q ≡ steps b (ascending (regionBlocks b r) copiesOf) p
+      → t ≡ steps b (forEach n set (λ d. clear d r ∷ [])) q → t ≡ steps b (mend n b set r) p
+  unfolding mend clears
+  mend-ran p first second = in-sequence b (copies n b set r) _ p (rw copies-loop first) second
+
+  pub mend-size : below set n ≡ true → length (mend n b set r) ≡ regionBlocks b r * size (others set) + size set
+  unfolding mend clears others
+  mend-size known =
+      let inside = below-difference set (singleton (source set)) n known in
+      let first : length (copies n b set r) ≡ size (others set) * regionBlocks b r =
+      ap length copies-loop ∙ even-length (size (others set)) copiesOf (λ i. for-length n (others set) _ inside) (regionBlocks b r) in
+      rw (mul-comm (regionBlocks b r) (size (others set))) (omega (arith, length-append (copies n b set r) (clears n set r), first, for-length n set (λ d. clear d r) known))

@@ -1,0 +1,71 @@
+-- `recovery::cleaning::clean_stores` meets its contract. Assumes nothing.
+use native.Mathlib.Omega.{arith}
+use borrow.Author.Needs.{needs}
+use Rattle.protocol.specs.Geometry.{regions}
+use Rattle.protocol.specs.Lists.{cleanList}
+use Rattle.tally.proofs.Carrying.{carried}
+use Rattle.recovery.proofs.cleaning.clean_stores.Statement.{statement}
+use Rattle.recovery.proofs.cleaning.clean_stores.Tie as tie
+
+size-of-requires : tie.Need-size-of-requires
+size-of-requires c κs = search needs
+
+live-requires : tie.Need-live-requires
+live-requires c κs = search needs
+
+regions-requires : tie.Need-regions-requires
+regions-requires c κs = search needs
+
+standing-requires : tie.Need-standing-requires
+unfolding regions
+standing-requires c κs =
+    let fit = c .before .before .before .before .pre in
+    rw (c .regions .ensures, c .before .before .size-of .ensures) (fit .range .disks, omega (arith, fit .range .blocks))
+
+started-requires : tie.Need-started-requires
+started-requires c κs = search needs
+
+clear-standing-requires : tie.Need-clear-standing-requires
+unfolding regions
+clear-standing-requires c κs =
+    let fit = c .before .before .before .before .before .before .pre in
+    rw (c .before .before .regions .ensures, c .before .before .before .before .size-of .ensures) (fit .range .disks, omega (arith, fit .range .blocks))
+
+current-requires : tie.Need-current-requires
+current-requires c κs = search needs
+
+ended-requires : tie.Need-ended-requires
+ended-requires c κs = search needs
+
+returns : tie.Need-returns
+unfolding cleanList
+returns c area output =
+    let at-current = c .before in
+    let at-clears = at-current .before in
+    let begun = at-clears .before in
+    let at-length = begun .before in
+    let at-regions = at-length .before in
+    let at-live = at-regions .before in
+    let sized = at-live .before in
+    let start = sized .before .before in
+    let s = start .args .s in
+    let live = at-live .live .ensures in
+    let size = sized .size-of .ensures in
+    let regions = at-regions .regions .ensures in
+    let cleared = rw (regions, size, live, begun .started .ensures) at (at-clears .clear-standing .ensures (s .blocks) area) in
+    let length = rw (regions, size, live) at (at-length .standing .ensures) in
+    rw (c .ended .ensures, at-current .current .ensures) (carried s _ _ (start .args .budget) _ area _ output cleared _ length)
+
+pub clean-stores-spec : {M : Type 1} → statement M
+clean-stores-spec =
+    tie.close
+    (tie.spec
+    size-of-requires
+    live-requires
+    regions-requires
+    standing-requires
+    started-requires
+    clear-standing-requires
+    current-requires
+    ended-requires
+    returns)

@@ -1,0 +1,67 @@
+-- `recovery::refusals::restart_refusal` meets its contract. Assumes nothing.
+use mathlib.Core.Path.{refl, _∙_}
+use borrow.Author.Needs.{needs}
+use Rattle.label.proofs.Order.{in-turn}
+use Rattle.naming.specs.Meaning.{foundOf}
+use Rattle.recovery.proofs.SoundFirst.{refusalsOf, sound-first}
+use Rattle.recovery.proofs.refusals.restart_refusal.Statement.{statement}
+use Rattle.recovery.proofs.refusals.restart_refusal.Tie as tie
+
+sound-requires : tie.Need-sound-requires
+sound-requires c κs = search needs
+
+cast-fits : tie.Need-cast-fits
+cast-fits c = search needs
+
+cast-fits-2 : tie.Need-cast-fits-2
+cast-fits-2 c = search needs
+
+fits-requires : tie.Need-fits-requires
+fits-requires c κs = search needs
+
+is-running-requires : tie.Need-is-running-requires
+is-running-requires c κs = search needs
+
+is-nothing-requires : tie.Need-is-nothing-requires
+is-nothing-requires c κs = search needs
+
+is-several-requires : tie.Need-is-several-requires
+is-several-requires c κs = search needs
+
+or-else-requires : tie.Need-or-else-requires
+or-else-requires c κs = search needs
+
+or-else-requires-2 : tie.Need-or-else-requires-2
+or-else-requires-2 c κs = search needs
+
+or-else-requires-3 : tie.Need-or-else-requires-3
+or-else-requires-3 c κs = search needs
+
+or-else-requires-4 : tie.Need-or-else-requires-4
+or-else-requires-4 c κs = search needs
+
+or-else-requires-5 : tie.Need-or-else-requires-5
+or-else-requires-5 c κs = search needs
+
+returns : tie.Need-returns
+returns c held h same =
+    let a = c .before .before .before .before .before .before .before .before .before .before .before .before .args in
+    in-turn (refusalsOf (a .s) held (foundOf (a .found))) refl (rw h (cc)) ∙ sound-first (a .s) held (foundOf (a .found)) same
+
+pub restart-refusal-spec : {M : Type 1} → statement M
+restart-refusal-spec =
+    tie.close
+    (tie.spec
+    sound-requires
+    cast-fits
+    cast-fits-2
+    fits-requires
+    is-running-requires
+    is-nothing-requires
+    is-several-requires
+    or-else-requires
+    or-else-requires-2
+    or-else-requires-3
+    or-else-requires-4
+    or-else-requires-5
+    returns)

@@ -1,0 +1,25 @@
+-- `recovery::regions::others` meets its contract. Assumes nothing.
+use native.Mathlib.Omega.{arith}
+use borrow.Author.Needs.{needs}
+use Rattle.recovery.specs.Regions.{others}
+use Rattle.protocol.specs.States.{source}
+use Rattle.sets.proofs.LowestMember.{lowest-below}
+use Rattle.recovery.proofs.regions.others.Statement.{statement}
+use Rattle.recovery.proofs.regions.others.Tie as tie
+
+source-requires : tie.Need-source-requires
+source-requires c κs = search needs
+
+singleton-requires : tie.Need-singleton-requires
+unfolding source
+singleton-requires c κs = rw (c .source .ensures) (lowest-below _ _ (omega arith) (c .before .fits .set .fits))
+
+difference-requires : tie.Need-difference-requires
+difference-requires c κs = search needs
+
+returns : tie.Need-returns
+unfolding others
+returns c = cc
+
+pub others-spec : {M : Type 1} → statement M
+others-spec = tie.close (tie.spec source-requires singleton-requires difference-requires returns)

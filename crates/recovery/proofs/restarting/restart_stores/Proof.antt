@@ -1,0 +1,85 @@
+-- `recovery::restarting::restart_stores` meets its contract. Assumes nothing.
+use native.Mathlib.Omega.{arith}
+use lib.ListN.{length-append}
+use borrow.Author.Needs.{needs}
+use Rattle.protocol.specs.Lists.{mends, commits, restartList}
+use Rattle.stores.proofs.Runs.{in-sequence}
+use Rattle.tally.proofs.Lengths.{commits-size}
+use Rattle.tally.proofs.Carrying.{carried}
+use Rattle.recovery.proofs.restarting.restart_stores.Statement.{statement}
+use Rattle.recovery.proofs.restarting.restart_stores.Tie as tie
+
+size-of-requires : tie.Need-size-of-requires
+size-of-requires c κs = search needs
+
+mends-length-requires : tie.Need-mends-length-requires
+mends-length-requires c κs =
+    let start = c .before .before .before in
+    rw (c .size-of .ensures) (start .pre .0 .fit .range .disks, start .pre .0 .fit .range .blocks, start .pre .2)
+
+count-requires : tie.Need-count-requires
+count-requires c κs = search needs
+
+add-stores : tie.Need-add-stores
+add-stores c = search needs
+
+started-requires : tie.Need-started-requires
+started-requires c κs = search needs
+
+mend-all-requires : tie.Need-mend-all-requires
+mend-all-requires c κs =
+    let sized = c .before .before .before .before in
+    let start = sized .before .before .before in
+    let fit = start .pre .0 .fit in
+    rw (sized .size-of .ensures)
+    (record { disks = fit .range .disks; blocks = fit .range .blocks; size = start .pre .0 .size }, start .pre .1, start .pre .2)
+
+store-labels-requires : tie.Need-store-labels-requires
+store-labels-requires c κs =
+    let sized = c .before .before .before .before .before .before .before in
+    let start = sized .before .before .before in
+    (rw (sized .size-of .ensures) (start .pre .0 .fit .range .disks), tt)
+
+ended-requires : tie.Need-ended-requires
+ended-requires c κs = search needs
+
+same-length : tie.Need-same-length
+same-length c = search needs
+
+returns : tie.Need-returns
+unfolding restartList commits
+returns c output =
+    let at-labels = c .before in
+    let at-mends = at-labels .before .before .before in
+    let begun = at-mends .before .before in
+    let at-count = begun .before in
+    let at-length = at-count .before in
+    let sized = at-length .before in
+    let start = sized .before .before .before in
+    let s = start .args .s in
+    let set = start .args .set in
+    let area = start .args .area .now in
+    let size = sized .size-of .ensures in
+    let mending = mends (s .disks) (s .blocks) (s .labels) set in
+    let mended = rw (size, begun .started .ensures) at (at-mends .mend-all .ensures) in
+    let committed = rw size at (at-labels .store-labels .ensures (s .blocks) (at-mends .mend-all .last .1 .0)) in
+    let length = rw size at (at-length .mends-length .ensures .0) in
+    let members = commits-size (s .disks) set (start .pre .2) in
+    rw (c .ended .ensures)
+    (carried s _ _ (start .args .budget) _ area _ output (in-sequence (s .blocks) mending _ _ mended committed) _
+    (omega (arith, length, at-count .count .ensures .0, members, length-append mending (commits (s .disks) set))))
+
+pub restart-stores-spec : {M : Type 1} → statement M
+restart-stores-spec =
+    tie.close
+    (tie.spec
+    size-of-requires
+    mends-length-requires
+    count-requires
+    add-stores
+    started-requires
+    mend-all-requires
+    store-labels-requires
+    ended-requires
+    same-length
+    returns)

@@ -1,0 +1,74 @@
+// Restart.
+ghost use mathlib.Core.Path.{_≡_};
+ghost use mathlib.Core.Bool.{true};
+ghost use mathlib.Core.List.{List};
+ghost use Prim.Native.Nat.{ℕ, _+_, _<_};
+ghost use Rattle.sets.specs.Sets.{below};
+ghost use Rattle.protocol.specs.Soundness.{sound};
+ghost use Rattle.protocol.specs.Lists.{restartList};
+ghost use Rattle.protocol.specs.Outcomes.{carryOut};
+ghost use Rattle.protocol.specs.Calls.{theSet, foundBy, restartOutcome};
+ghost use Rattle.naming.specs.Meaning.{foundOf};
+ghost use Rattle.tally.specs.Ready.{Ready};
+use crate::mending::mend_all;
+use crate::mending::mends_length;
+use crate::refusals::restart_refusal;
+use naming::Naming;
+use protocol::Answer;
+use protocol::State;
+use sets::Mask;
+use soundness::sound;
+use state::without_stores;
+use stores::Change;
+use tally::count;
+use tally::ended;
+use tally::size_of;
+use tally::started;
+
+// "At the end store C = S and T = 0 on every member, ascending. Then run with G = S."
+fn restart_stores(s: State, area: &mut [u8], set: Mask, budget: u16) -> Answer
+    requires { ⌜ Ready s (now area) × (0 < set) × (below set (s .disks) ≡ true) ⌝ }
+    ensures { λ r. ⌜ ((output : List ℕ) → record { answer = r; area = now (area .exit); output = output } ≡ carryOut (restartList s set) budget set s (now (area .entry)) output) ⌝ }
+{
+    let labels = s.labels;
+    let size = size_of(s);
+    let stores = mends_length(labels, size, set) + count(set);
+    let run = mend_all(started(s, budget), area, labels, size, set);
+    let run = stores::store_labels(run, size.disks, set, Change::Commit(set));
+    ended(s, run, stores, set, budget)
+}
+
+// What the labels of a sound state name; of another state, which is refused, nothing is asked.
+fn found_by(s: State) -> Naming
+    ensures { λ r. ⌜ (sound s ≡ true → foundOf r ≡ foundBy s) ⌝ }
+{
+    if sound(s) {
+        let labels = s.labels;
+        naming::named(s.disks as usize, s.online, labels)
+    } else {
+        Naming::Nothing
+    }
+}
+
+fn the_set(found: Naming) -> Mask
+    ensures { λ r. ⌜ r ≡ theSet (foundOf found) ⌝ }
+{
+    match found {
+        Naming::Nothing => 0,
+        Naming::One(x) => x,
+        Naming::Several => 0,
+    }
+}
+
+// Given no output, it leaves any.
+pub fn restart(s: State, area: &mut [u8], budget: u16) -> Answer
+    ensures { λ r. ⌜ ((output : List ℕ) → record { answer = r; area = now (area .exit); output = output } ≡ restartOutcome s (now (area .entry)) output budget) ⌝ }
+{
+    let found = found_by(s);
+    let refusal = restart_refusal(s, area.len(), found);
+    if refusal == 0 {
+        restart_stores(s, area, the_set(found), budget)
+    } else {
+        without_stores(s, refusal)
+    }
+}

@@ -1,4 +1,0 @@
-pub mod Ready
-pub mod Regions
-pub mod Answers
-pub mod Turns

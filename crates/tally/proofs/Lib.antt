@@ -1,0 +1,4 @@
+-- The laws of counting and of answers.
+pub mod DirtyDisks
+pub mod Lengths
+pub mod Carrying

@@ -1,0 +1,86 @@
+// How a call with a list begins and ends.
+ghost use mathlib.Core.Path.{_≡_};
+ghost use mathlib.Core.Bool.{cond};
+ghost use lib.Dec.{ltb};
+ghost use Rattle.protocol.specs.declared.Power.the-variants.{Stopped, Running};
+ghost use Rattle.tally.specs.Answers.{answered};
+use protocol::Answer;
+use protocol::Power;
+use protocol::State;
+use protocol::refusal::POWER_LOST;
+use sets::Mask;
+use stores::Run;
+use stores::Size;
+
+// A function of its own, so that no count has to be proved to fit.
+fn wide(x: u8) -> usize
+    ensures { λ r. ⌜ r ≡ x ⌝ }
+{
+    x as usize
+}
+
+pub fn size_of(s: State) -> Size
+    ensures { λ r. ⌜ r ≡ record { disks = s .disks; blocks = s .blocks } ⌝ }
+{
+    Size {
+        disks: wide(s.disks),
+        blocks: wide(s.blocks),
+    }
+}
+
+pub fn started(s: State, budget: u16) -> Run
+    ensures { λ r. ⌜ r ≡ record { labels = s .labels; left = budget } ⌝ }
+{
+    let labels = s.labels;
+    Run {
+        labels: labels,
+        left: budget,
+    }
+}
+
+fn refusal_after(cut: bool) -> u8
+    ensures { λ r. ⌜ r ≡ cond cut 15 0 ⌝ }
+{
+    if cut { POWER_LOST } else { 0 }
+}
+
+fn power_after(cut: bool, current: Mask) -> Power
+    ensures { λ r. ⌜ r ≡ cond cut Stopped (Running current) ⌝ }
+{
+    if cut {
+        Power::Stopped
+    } else {
+        Power::Running(current)
+    }
+}
+
+fn made(stores: usize, budget: u16) -> u16
+    ensures { λ r. ⌜ r ≡ cond (ltb budget stores) budget stores ⌝ }
+{
+    if (budget as usize) < stores {
+        budget
+    } else {
+        stores as u16
+    }
+}
+
+// "If the list is longer than the supply, exactly the first supply stores are made, the cabinet is stopped, and the result
+// is 15 with that count. Otherwise all are made", and the cabinet runs with `current`.
+pub fn ended(s: State, run: Run, stores: usize, current: Mask, budget: u16) -> Answer
+    ensures { λ r. ⌜ r ≡ answered s (run .labels) stores current budget ⌝ }
+{
+    let cut = (budget as usize) < stores;
+    let power = power_after(cut, current);
+    let labels = run.labels;
+    Answer {
+        refusal: refusal_after(cut),
+        stores: made(stores, budget),
+        state: State {
+            disks: s.disks,
+            blocks: s.blocks,
+            labels: labels,
+            online: s.online,
+            power: power,
+        },
+    }
+}
