@@ -24,18 +24,22 @@ fn byte_at(bytes: &[u8], at: usize) -> u8
 }
 
 // The field at a place whose bit of the map is given, 0 where that does not stand.
-fn field(bytes: &[u8], bit: u8, at: usize) -> u8
+fn field(bytes: &[u8], bit: u8, at: u8) -> u8
     ensures { λ r. ⌜ r ≡ fieldAt (now (bytes .entry)) bit 1 at ⌝ }
 {
-    if bit == 1 { byte_at(bytes, at) } else { 0 }
+    if bit == 1 {
+        byte_at(bytes, at as usize)
+    } else {
+        0
+    }
 }
 
 fn fields(bytes: &[u8], map: u8) -> Label
     ensures { λ r. ⌜ r ≡ fieldsOf narrow (now (bytes .entry)) map ⌝ }
 {
     let first = 2;
-    let second = first + (map % 2) as usize;
-    let third = second + (map / 2 % 2) as usize;
+    let second = first + map % 2;
+    let third = second + map / 2 % 2;
     Label {
         committed: field(bytes, map % 2, first),
         tentative: field(bytes, map / 2 % 2, second),

@@ -31,5 +31,5 @@ pub(crate) fn wrong_sets(label: Label, d: usize, n: usize) -> bool
 pub(crate) fn label_length(map: u8) -> usize
     ensures { λ r. ⌜ r ≡ labelLength narrow map ⌝ }
 {
-    2 + (map % 2) as usize + (map / 2 % 2) as usize + (map / 4 % 2) as usize
+    (2 + map % 2 + map / 2 % 2 + map / 4 % 2) as usize
 }

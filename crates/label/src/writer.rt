@@ -1,6 +1,5 @@
 // Writing a label as bytes.
 ghost use mathlib.Core.Path.{_≡_};
-ghost use mathlib.Core.List.{[], _∷_};
 ghost use Prim.Native.Nat.{_+_, _≤_, _<_};
 ghost use lib.ListN.{length};
 ghost use Rattle.label.specs.Form.{narrow};
@@ -43,23 +42,17 @@ fn write_refusal(room: usize, number: usize, disks: usize, label: Label) -> u8
     or_else(first, room < needed, NO_ROOM)
 }
 
-fn put_byte(out: &mut [u8], at: usize, byte: u8)
-    requires { ⌜ at < length (now out) ⌝ }
-    ensures { λ _. ⌜ now (out .exit) ≡ splice at (byte ∷ []) (now (out .entry)) ⌝ }
-{
-    out[at] = byte;
-}
-
 // Stores a field at a place if it is present, and gives the place behind it.
 fn put_field(out: &mut [u8], at: usize, field: u8) -> usize
     requires { ⌜ at + present field ≤ length (now out) ⌝ }
     ensures { λ r. ⌜ (r ≡ at + present field) × (now (out .exit) ≡ splice at (fieldBytes 1 field) (now (out .entry))) ⌝ }
 {
     if field == 0 {
-        return at;
+        at
+    } else {
+        out[at] = field;
+        at + 1
     }
-    put_byte(out, at, field);
-    at + 1
 }
 
 // Stores the label's bytes, one after the other, and gives their number.
@@ -67,8 +60,8 @@ fn put(out: &mut [u8], number: usize, disks: usize, label: Label) -> usize
     requires { ⌜ (number < 16) × (disks < 16) × (2 + present (label .committed) + present (label .tentative) + present (label .dirty) ≤ length (now out)) ⌝ }
     ensures { λ r. ⌜ (r ≡ length (encode narrow number disks label)) × (now (out .exit) ≡ splice 0 (encode narrow number disks label) (now (out .entry))) ⌝ }
 {
-    put_byte(out, 0, map_byte(label));
-    put_byte(out, 1, (number + 16 * disks) as u8);
+    out[0] = map_byte(label);
+    out[1] = (number + 16 * disks) as u8;
     let second = put_field(out, 2, label.committed);
     let third = put_field(out, second, label.tentative);
     put_field(out, third, label.dirty)
@@ -81,15 +74,13 @@ pub fn write(out: &mut [u8], number: usize, disks: usize, label: Label) -> Writt
     ensures bytes { λ r. ⌜ now (out .exit) ≡ writtenBytes narrow number disks label (now (out .entry)) ⌝ }
 {
     let refusal = write_refusal(out.len(), number, disks, label);
-    if refusal == 0 {
-        Written {
-            refusal: 0,
-            length: put(out, number, disks, label),
-        }
+    let length = if refusal == 0 {
+        put(out, number, disks, label)
     } else {
-        Written {
-            refusal: refusal,
-            length: 0,
-        }
+        0
+    };
+    Written {
+        refusal: refusal,
+        length: length,
     }
 }

@@ -5,14 +5,8 @@ use Rattle.label.specs.Bytes.{fieldsOf}
 use Rattle.label.proofs.reader.fields.Statement.{statement}
 use Rattle.label.proofs.reader.fields.Tie as tie
 
-cast-second : tie.Need-cast-second
-cast-second c = search needs
-
 add-second : tie.Need-add-second
 add-second c = search needs
-
-cast-third : tie.Need-cast-third
-cast-third c = search needs
 
 add-third : tie.Need-add-third
 add-third c = search needs
@@ -31,14 +25,4 @@ unfolding fieldsOf
 returns c = simp one-mul (rw (c .before .before .field .ensures, c .before .field2 .ensures, c .field3 .ensures))
 
 pub fields-spec : {M : Type 1} → statement M
-fields-spec =
-    tie.close
-    (tie.spec
-    cast-second
-    add-second
-    cast-third
-    add-third
-    field-requires
-    field-requires-2
-    field-requires-3
-    returns)
+fields-spec = tie.close (tie.spec add-second add-third field-requires field-requires-2 field-requires-3 returns)

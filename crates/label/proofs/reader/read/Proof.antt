@@ -25,7 +25,14 @@ judge-requires c κs = search needs
 
 returns : tie.Need-returns
 unfolding reading
-returns c = rw add-zero (cc)
+returns c =
+    rw (
+      c .judge .ensures,
+      c .before .fields .ensures,
+      c .before .before .byte-at2 .ensures,
+      c .before .before .before .byte-at .ensures,
+      add-zero,
+    )
 
 pub read-spec : {M : Type 1} → statement M
 read-spec =

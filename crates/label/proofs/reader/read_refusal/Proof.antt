@@ -38,7 +38,19 @@ or-else-requires-6 c κs = search needs
 
 returns : tie.Need-returns
 unfolding readRefusal readRefusals
-returns c = in-turn _ refl (cc)
+returns c =
+    in-turn _ refl (rw (
+      c .or-else6 .ensures,
+      c .before .or-else5 .ensures,
+      c .before .before .or-else4 .ensures,
+      c .before .before .before .or-else3 .ensures,
+      c .before .before .before .before .or-else2 .ensures,
+      c .before .before .before .before .before .or-else .ensures,
+      c .before .before .before .before .before .before .wrong-sets .ensures,
+      c .before .before .before .before .before .before .before .empty-field .ensures,
+      c .before .before .before .before .before .before .before .before .label-length .ensures,
+      c .before .before .before .before .before .before .before .before .before .outside .ensures,
+    ))
 
 pub read-refusal-spec : {M : Type 1} → statement M
 read-refusal-spec =

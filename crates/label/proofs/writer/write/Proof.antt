@@ -26,8 +26,8 @@ same-length c = search needs
 returns : tie.Need-returns
 unfolding written writtenBytes
 returns c =
-    let none = sym (c .before .before .before .before .before .write-refusal .ensures) ∙ c .before .before .before .before .if1 .taken in
-    rw none (rw (c .before .before .put .ensures .0), c .before .before .put .ensures .1)
+    rw (← c .before .before .before .before .before .write-refusal .ensures, c .before .before .before .before .if1 .taken)
+    (rw (c .before .before .put .ensures .0), c .before .before .put .ensures .1)
 
 returns-2 : tie.Need-returns-2
 unfolding written writtenBytes

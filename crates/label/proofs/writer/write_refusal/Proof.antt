@@ -33,7 +33,17 @@ or-else-requires-4 c κs = search needs
 
 returns : tie.Need-returns
 unfolding writeRefusal writeRefusals
-returns c = rw encode-length (in-turn _ refl (cc))
+returns c =
+    rw encode-length (in-turn _ refl (rw (
+      c .or-else4 .ensures,
+      c .before .or-else3 .ensures,
+      c .before .before .or-else2 .ensures,
+      c .before .before .before .or-else .ensures,
+      c .before .before .before .before .label-length .ensures,
+      c .before .before .before .before .before .map-byte .ensures,
+      c .before .before .before .before .before .before .wrong-sets .ensures,
+      c .before .before .before .before .before .before .before .outside .ensures,
+    )))
 
 pub write-refusal-spec : {M : Type 1} → statement M
 write-refusal-spec =
