@@ -18,7 +18,7 @@ below-requires c κs = search needs
 
 returns : tie.Need-returns
 unfolding fitLabel
-returns c = cc
+returns c = rw (c .before .before .before .fit-set .ensures, c .before .before .fit-set2 .ensures, c .below .ensures, c .before .regions .ensures)
 
 pub fit-label-spec : {M : Type 1} → statement M
 fit-label-spec =

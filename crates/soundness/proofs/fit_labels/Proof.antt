@@ -12,7 +12,7 @@ rest-blank-requires c κs = search needs
 
 returns : tie.Need-returns
 unfolding fitLabels
-returns c = cc
+returns c = rw (c .before .each-fit .ensures, c .rest-blank .ensures)
 
 pub fit-labels-spec : {M : Type 1} → statement M
 fit-labels-spec = tie.close (tie.spec each-fit-requires rest-blank-requires returns)

@@ -18,11 +18,11 @@ fit-members-requires c κs = search needs
 
 returns : tie.Need-returns
 unfolding fitPower
-returns c = cc
+returns c = rw (c .enum-told .given .1)
 
 returns-2 : tie.Need-returns-2
 unfolding fitPower
-returns-2 c = cc
+returns-2 c = rw (c .before .below .ensures, c .fit-members .ensures, c .before .before .before .power .given .1)
 
 pub fit-power-spec : {M : Type 1} → statement M
 fit-power-spec =

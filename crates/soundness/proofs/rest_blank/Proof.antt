@@ -37,7 +37,7 @@ loop-less c = omega arith
 
 loop-again : tie.Need-loop-again Inv-loop μ-loop
 unfolding allBelow
-loop-again c = (omega arith, rw add-one (cc))
+loop-again c = (omega arith, rw (add-one, c .is-blank .ensures, c .before .label-at .ensures, c .before .before .before .loop .inv .1))
 
 returns : tie.Need-returns Inv-loop μ-loop
 returns c = let e : c .before .loop .d ≡ mostDisks = omega arith in rw e at (c .before .loop .inv .1)

@@ -16,7 +16,7 @@ enum-told-2 c = search needs
 
 returns : tie.Need-returns
 unfolding another
-returns c = cc
+returns c = rw (c .before .before .if1 .taken, c .enum-told .given .1)
 
 returns-2 : tie.Need-returns-2
 unfolding another
@@ -28,7 +28,7 @@ returns-3 c = rw (c .before .before .before .before .if1 .taken, c .before .befo
 
 returns-4 : tie.Need-returns-4
 unfolding another
-returns-4 c = cc
+returns-4 c = rw (c .before .before .if1 .taken, c .enum-told2 .given .1)
 
 returns-5 : tie.Need-returns-5
 returns-5 c = search needs

@@ -15,15 +15,15 @@ enum-told-2 c = search needs
 
 returns : tie.Need-returns
 unfolding orLater
-returns c = cc
+returns c = rw (c .enum-told .given .1)
 
 returns-2 : tie.Need-returns-2
 unfolding orLater
-returns-2 c = cc
+returns-2 c = rw (c .before .found .given .1)
 
 returns-3 : tie.Need-returns-3
 unfolding orLater
-returns-3 c = cc
+returns-3 c = rw (c .enum-told2 .given .1)
 
 pub or-later-spec : {M : Type 1} → statement M
 or-later-spec =

@@ -32,7 +32,7 @@ or-else-requires-4 c κs = search needs
 
 returns : tie.Need-returns
 unfolding assembleRefusals
-returns c = in-turn _ refl (cc)
+returns c = in-turn _ refl (rw (c .or-else4 .ensures, c .before .or-else3 .ensures, c .before .before .or-else2 .ensures, c .before .before .before .or-else .ensures, c .before .before .before .before .below .ensures, c .before .before .before .before .before .wrong-size .ensures, c .before .before .before .before .before .before .wrong-block-count .ensures, c .before .before .before .before .before .before .before .outside .ensures))
 
 pub arguments-refusal-spec : {M : Type 1} → statement M
 arguments-refusal-spec =

@@ -22,7 +22,7 @@ or-else-requires-3 c κs = search needs
 
 returns : tie.Need-returns
 unfolding slotRefusals
-returns c = rw (← slot-first) (cc)
+returns c = rw (← slot-first, c .or-else3 .ensures, c .before .or-else2 .ensures, c .before .before .or-else .ensures, c .before .before .before .below .ensures, c .before .before .before .before .regions .ensures)
 
 pub slot-refusal-spec : {M : Type 1} → statement M
 slot-refusal-spec =

@@ -21,7 +21,7 @@ or-else-requires-2 : tie.Need-or-else-requires-2
 or-else-requires-2 c κs = search needs
 
 returns : tie.Need-returns
-returns c = in-turn _ refl (cc)
+returns c = in-turn _ refl (rw (c .or-else2 .ensures, c .before .or-else .ensures, c .before .before .wrong-size .ensures, c .before .before .before .sound .ensures))
 
 pub save-refusal-spec : {M : Type 1} → statement M
 save-refusal-spec =
