@@ -26,7 +26,17 @@ or-else-requires-3 c κs = search needs
 
 returns : tie.Need-returns
 unfolding formatRefusals
-returns c = λ held h. in-turn _ refl (rw h (cc))
+returns c held h =
+    in-turn _ refl
+    (rw (
+      h,
+      c .or-else3 .ensures,
+      c .before .or-else2 .ensures,
+      c .before .before .or-else .ensures,
+      c .before .before .before .fits2 .ensures,
+      c .before .before .before .before .wrong-block-count .ensures,
+      c .before .before .before .before .before .outside .ensures,
+    ))
 
 pub format-refusal-spec : {M : Type 1} → statement M
 format-refusal-spec =

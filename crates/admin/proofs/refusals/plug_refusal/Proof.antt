@@ -20,7 +20,13 @@ or-else-requires-2 c κs = search needs
 
 returns : tie.Need-returns
 unfolding plugRefusals
-returns c = in-turn _ refl (cc)
+returns c =
+    in-turn _ refl
+    (rw (
+      c .or-else2 .ensures,
+      c .before .or-else .ensures,
+      c .before .before .sound .ensures,
+    ))
 
 pub plug-refusal-spec : {M : Type 1} → statement M
 plug-refusal-spec =

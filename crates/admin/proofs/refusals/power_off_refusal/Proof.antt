@@ -12,7 +12,12 @@ or-else-requires : tie.Need-or-else-requires
 or-else-requires c κs = search needs
 
 returns : tie.Need-returns
-returns c = in-turn _ refl (cc)
+returns c =
+    in-turn _ refl
+    (rw (
+      c .or-else .ensures,
+      c .before .sound .ensures,
+    ))
 
 pub power-off-refusal-spec : {M : Type 1} → statement M
 power-off-refusal-spec = tie.close (tie.spec sound-requires or-else-requires returns)

@@ -26,7 +26,16 @@ or-else-requires-3 c κs = search needs
 
 returns : tie.Need-returns
 unfolding cleanRefusals
-returns c = in-turn _ refl (cc)
+returns c =
+    in-turn _ refl
+    (rw (
+      c .or-else3 .ensures,
+      c .before .or-else2 .ensures,
+      c .before .before .or-else .ensures,
+      c .before .before .before .live .ensures,
+      c .before .before .before .before .is-running .ensures,
+      c .before .before .before .before .before .sound .ensures,
+    ))
 
 pub clean-refusal-spec : {M : Type 1} → statement M
 clean-refusal-spec =

@@ -46,7 +46,21 @@ or-else-requires-5 c κs = search needs
 returns : tie.Need-returns
 returns c held h same =
     let a = c .before .before .before .before .before .before .before .before .before .before .before .before .args in
-    in-turn (refusalsOf (a .s) held (foundOf (a .found))) refl (rw h (cc)) ∙ sound-first (a .s) held (foundOf (a .found)) same
+    in-turn (refusalsOf (a .s) held (foundOf (a .found))) refl
+    (rw (
+      h,
+      c .or-else5 .ensures,
+      c .before .or-else4 .ensures,
+      c .before .before .or-else3 .ensures,
+      c .before .before .before .or-else2 .ensures,
+      c .before .before .before .before .or-else .ensures,
+      c .before .before .before .before .before .is-several .ensures,
+      c .before .before .before .before .before .before .is-nothing .ensures,
+      c .before .before .before .before .before .before .before .is-running .ensures,
+      c .before .before .before .before .before .before .before .before .fits2 .ensures,
+      c .before .before .before .before .before .before .before .before .before .before .before .sound .ensures,
+    ))
+    ∙ sound-first (a .s) held (foundOf (a .found)) same
 
 pub restart-refusal-spec : {M : Type 1} → statement M
 restart-refusal-spec =

@@ -19,7 +19,7 @@ difference-requires c κs = search needs
 
 returns : tie.Need-returns
 unfolding others
-returns c = cc
+returns c = rw (c .difference .ensures, c .before .singleton .ensures, c .before .before .source .ensures)
 
 pub others-spec : {M : Type 1} → statement M
 others-spec = tie.close (tie.spec source-requires singleton-requires difference-requires returns)

@@ -44,7 +44,22 @@ or-else-requires-6 c κs = search needs
 
 returns : tie.Need-returns
 unfolding blockRefusals
-returns c = λ held given h g. in-turn _ refl (rw (h, g) (cc))
+returns c held given h g =
+    in-turn _ refl
+    (rw (
+      h,
+      g,
+      c .or-else6 .ensures,
+      c .before .or-else5 .ensures,
+      c .before .before .or-else4 .ensures,
+      c .before .before .before .or-else3 .ensures,
+      c .before .before .before .before .or-else2 .ensures,
+      c .before .before .before .before .before .or-else .ensures,
+      c .before .before .before .before .before .before .live .ensures,
+      c .before .before .before .before .before .before .before .is-running .ensures,
+      c .before .before .before .before .before .before .before .before .fits2 .ensures,
+      c .before .before .before .before .before .before .before .before .before .before .sound .ensures,
+    ))
 
 pub block-refusal-spec : {M : Type 1} → statement M
 block-refusal-spec =

@@ -56,7 +56,25 @@ or-else-requires-7 c κs = search needs
 
 returns : tie.Need-returns
 unfolding joinRefusals
-returns c = λ held h. in-turn _ refl (rw h (cc))
+returns c held h =
+    in-turn _ refl
+    (rw (
+      h,
+      c .or-else7 .ensures,
+      c .before .or-else6 .ensures,
+      c .before .before .or-else5 .ensures,
+      c .before .before .before .or-else4 .ensures,
+      c .before .before .before .before .or-else3 .ensures,
+      c .before .before .before .before .before .or-else2 .ensures,
+      c .before .before .before .before .before .before .or-else .ensures,
+      c .before .before .before .before .before .before .before .live .ensures,
+      c .before .before .before .before .before .before .before .before .has2 .ensures,
+      c .before .before .before .before .before .before .before .before .before .current .ensures,
+      c .before .before .before .before .before .before .before .before .before .before .has .ensures,
+      c .before .before .before .before .before .before .before .before .before .before .before .is-running .ensures,
+      c .before .before .before .before .before .before .before .before .before .before .before .before .fits2 .ensures,
+      c .before .before .before .before .before .before .before .before .before .before .before .before .before .before .sound .ensures,
+    ))
 
 pub join-refusal-spec : {M : Type 1} → statement M
 join-refusal-spec =

@@ -37,7 +37,9 @@ loop-less c = omega arith
 
 loop-again : tie.Need-loop-again Inv-loop μ-loop
 unfolding dirtyDisks
-loop-again c = (omega arith, rw (add-one, dirtyDisks) (cc))
+loop-again c =
+    let at = c .before .before .before .before in
+    (omega arith, rw (add-one, dirtyDisks, c .with-disk .ensures, c .before .has .ensures, at .loop .inv .1))
 
 returns : tie.Need-returns Inv-loop μ-loop
 returns c = let e : c .before .loop .d ≡ c .before .before .args .n = omega arith in rw e at (c .before .loop .inv .1)
