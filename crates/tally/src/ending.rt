@@ -12,22 +12,17 @@ use sets::Mask;
 use stores::Run;
 use stores::Size;
 
-// A function of its own, so that no count has to be proved to fit.
-fn wide(x: u8) -> usize
-    ensures { λ r. ⌜ r ≡ x ⌝ }
-{
-    x as usize
-}
-
+// n and b, as loops count.
 pub fn size_of(s: State) -> Size
     ensures { λ r. ⌜ r ≡ record { disks = s .disks; blocks = s .blocks } ⌝ }
 {
     Size {
-        disks: wide(s.disks),
-        blocks: wide(s.blocks),
+        disks: s.disks as usize,
+        blocks: s.blocks as usize,
     }
 }
 
+// A call before its first store.
 pub fn started(s: State, budget: u16) -> Run
     ensures { λ r. ⌜ r ≡ record { labels = s .labels; left = budget } ⌝ }
 {
@@ -54,6 +49,7 @@ fn power_after(cut: bool, current: Mask) -> Power
     }
 }
 
+// How many of a list's stores the budget allows.
 fn made(stores: usize, budget: u16) -> u16
     ensures { λ r. ⌜ r ≡ cond (ltb budget stores) budget stores ⌝ }
 {

@@ -15,21 +15,29 @@ returns c = none-made _ _ _ _ _ (rw (c .before .has .ensures) at (c .if1 .taken)
 
 store-requires : tie.Need-store-requires
 store-requires c κs =
-    let a = c .before .before .before .before .before .before .args in
-    let pre = c .before .before .before .before .before .before .pre in
-    (in-area (a .size .disks) (a .size .blocks) (a .d) (a .k) (a .area .now) (pre .0) (pre .1) (pre .2), pre .3)
+    let start = c .before .before .before .before .before .before in
+    let a = start .args in
+    let (fits, disk, known, full) = start .pre in
+    (in-area (a .size .disks) (a .size .blocks) (a .d) (a .k) (a .area .now) fits disk known, full)
 
 sub-run : tie.Need-sub-run
-sub-run c = omega (arith, positive (c .before .before .before .before .before .before .before .before .before .before .args .run .left) (or-parts _ _ (c .before .before .before .before .before .if1 .left) .0))
+sub-run c =
+    let branch = c .before .before .before .before .before in
+    let start = branch .before .before .before .before .before in
+    omega (arith, positive (start .args .run .left) (or-parts _ _ (branch .if1 .left) .0))
 
 same-length : tie.Need-same-length
 same-length c = search needs
 
 returns-2 : tie.Need-returns-2
 returns-2 c =
-    let a = c .before .before .before .before .before .before .before .before .before .before .args in
-    rw (c .before .before .before .store .ensures)
-    (block-made (a .size .blocks) (a .set) (a .d) (a .k) (a .bytes .now) (a .run) (a .area .now) (rw (c .before .before .before .before .before .before .has .ensures) at (c .before .before .before .before .before .if1 .left)))
+    let stored = c .before .before .before in
+    let branch = stored .before .before in
+    let asked = branch .before in
+    let start = asked .before .before .before .before in
+    let a = start .args in
+    let made = rw (asked .has .ensures) at (branch .if1 .left) in
+    rw (stored .store .ensures) (block-made (a .size .blocks) (a .set) (a .d) (a .k) (a .bytes .now) (a .run) (a .area .now) made)
 
 pub store-block-spec : {M : Type 1} → statement M
 store-block-spec =

@@ -29,13 +29,19 @@ element-set-from-l : tie.Need-element-set-from-l
 element-set-from-l c = search needs
 
 sub-run : tie.Need-sub-run
-sub-run c = omega (arith, positive (c .before .before .before .before .before .args .run .left) (or-parts _ _ (c .before .before .if1 .left) .0))
+sub-run c =
+    let branch = c .before .before in
+    let start = branch .before .before .before in
+    omega (arith, positive (start .args .run .left) (or-parts _ _ (branch .if1 .left) .0))
 
 returns-2 : tie.Need-returns-2
 returns-2 c b area =
-    let a = c .before .before .before .before .before .args in
-    rw (c .changed .ensures)
-    (label-made b (a .set) (a .d) (a .change) (a .run) area (rw (c .before .before .before .has .ensures) at (c .before .before .if1 .left)))
+    let branch = c .before .before in
+    let asked = branch .before in
+    let start = asked .before .before in
+    let a = start .args in
+    let made = rw (asked .has .ensures) at (branch .if1 .left) in
+    rw (c .changed .ensures) (label-made b (a .set) (a .d) (a .change) (a .run) area made)
 
 pub store-label-spec : {M : Type 1} → statement M
 store-label-spec =
