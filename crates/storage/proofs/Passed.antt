@@ -13,26 +13,25 @@ use Rattle.protocol.specs.declared.State.{State}
 use Rattle.protocol.specs.Geometry.{blockSize}
 use Rattle.protocol.specs.States.{currentOf, live, source}
 use Rattle.protocol.specs.Calls.{blockRefusals, joinRefusals}
-use Rattle.protocol.proofs.Soundness.{test-agrees}
+use Rattle.protocol.proofs.Soundness.{test-agrees, live-known}
 use Rattle.protocol.proofs.Passing.{block-passed, join-passed}
+use Rattle.protocol.proofs.Backing.{source-known}
 use Rattle.area.specs.Parts.{InArea}
 use Rattle.stores.proofs.Copying.{in-area}
 use Rattle.tally.specs.Ready.{Ready}
-use Rattle.protocol.proofs.Soundness.{live-known}
-use Rattle.protocol.proofs.Backing.{source-known}
 
 -- read and write
 module _ (s : State) (area : List ℕ) (k : ℕ) (bytes : List ℕ) (e : firstOf (blockRefusals s area k bytes) ≡ 0) where
-  pub write-passed : Ready s area × (k < s .blocks) × (length bytes ≡ blockSize)
+  pub write-ready : Ready s area × (k < s .blocks) × (length bytes ≡ blockSize)
   unfolding blockRefusals
-  write-passed =
+  write-ready =
       let pass = block-passed s area k bytes e in
       let size = eqb-true _ _ (not-false _ (none-at (blockRefusals s area k bytes) refl e 1)) in
       (record { fit = pass .fit; size = size }, pass .known, pass .full)
 
-  pub read-passed : InArea (s .blocks) (source (live s)) k area × (length bytes ≡ blockSize)
-  read-passed =
-      let (ready, known, full) = write-passed in
+  pub read-ready : InArea (s .blocks) (source (live s)) k area × (length bytes ≡ blockSize)
+  read-ready =
+      let (ready, known, full) = write-ready in
       let range = ready .fit .range in
       let from = source-known (s .disks) (live s) (block-passed s area k bytes e .some) (live-known s (ready .fit)) in
       (in-area (s .disks) (s .blocks) _ k area (record { disks = range .disks; blocks = range .blocks; size = ready .size }) from known, full)

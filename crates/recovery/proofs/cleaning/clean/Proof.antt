@@ -1,8 +1,8 @@
 -- `recovery::cleaning::clean` meets its contract. Assumes nothing.
 use mathlib.Core.Path.{sym, _∙_}
 use borrow.Author.Needs.{needs}
-use Rattle.protocol.proofs.Passing.{refused, passed}
 use Rattle.protocol.specs.Calls.{cleanOutcome}
+use Rattle.protocol.proofs.Passing.{refused, passed}
 use Rattle.recovery.proofs.Passed.{clean-ready}
 use Rattle.recovery.proofs.cleaning.clean.Statement.{statement}
 use Rattle.recovery.proofs.cleaning.clean.Tie as tie

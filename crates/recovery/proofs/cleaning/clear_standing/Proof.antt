@@ -7,8 +7,8 @@ use Rattle.protocol.specs.Stores.{clear}
 use Rattle.protocol.specs.Loops.{ascending}
 use Rattle.stores.specs.Runs.{progress, steps}
 use Rattle.stores.proofs.Runs.{one-turn}
-use Rattle.recovery.specs.Turns.{clearsOf}
 use Rattle.tally.proofs.DirtyDisks.{where-stands}
+use Rattle.recovery.specs.Turns.{clearsOf}
 use Rattle.recovery.proofs.cleaning.clear_standing.Statement.{statement}
 use Rattle.recovery.proofs.cleaning.clear_standing.Tie as tie
 

@@ -6,9 +6,9 @@ use lib.ListN.{length}
 use Rattle.protocol.specs.Geometry.{mostDisks}
 use Rattle.protocol.specs.Stores.{clear}
 use Rattle.protocol.specs.Loops.{ascending}
-use Rattle.recovery.specs.Turns.{clearsOf}
 use Rattle.tally.proofs.DirtyDisks.{standing-size}
 use Rattle.tally.proofs.Lengths.{turn-length}
+use Rattle.recovery.specs.Turns.{clearsOf}
 use Rattle.recovery.proofs.cleaning.standing.Statement.{statement}
 use Rattle.recovery.proofs.cleaning.standing.Tie as tie
 

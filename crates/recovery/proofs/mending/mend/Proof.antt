@@ -4,9 +4,9 @@ use native.Mathlib.Omega.{arith}
 use borrow.Author.Tests.{not-true, not-false}
 use borrow.Author.Needs.{needs}
 use Rattle.protocol.specs.Geometry.{regions}
+use Rattle.protocol.proofs.Backing.{source-known}
 use Rattle.stores.specs.Runs.{steps}
 use Rattle.recovery.proofs.RegionBlocks.{region-inside}
-use Rattle.protocol.proofs.Backing.{source-known}
 use Rattle.recovery.proofs.RestartList.{source-apart, mend-ran}
 use Rattle.recovery.proofs.mending.mend.Statement.{statement}
 use Rattle.recovery.proofs.mending.mend.Tie as tie

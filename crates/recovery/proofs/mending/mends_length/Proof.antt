@@ -6,8 +6,8 @@ use lib.ListN.{length}
 use Rattle.protocol.specs.Geometry.{mostDisks, regionSize, regions}
 use Rattle.protocol.specs.Loops.{ascending}
 use Rattle.protocol.specs.Lists.{mends}
-use Rattle.recovery.specs.Turns.{mendOf}
 use Rattle.tally.proofs.Lengths.{turn-length}
+use Rattle.recovery.specs.Turns.{mendOf}
 use Rattle.recovery.proofs.mending.mends_length.Statement.{statement}
 use Rattle.recovery.proofs.mending.mends_length.Tie as tie
 

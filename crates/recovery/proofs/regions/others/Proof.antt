@@ -1,9 +1,9 @@
 -- `recovery::regions::others` meets its contract. Assumes nothing.
 use native.Mathlib.Omega.{arith}
 use borrow.Author.Needs.{needs}
-use Rattle.recovery.specs.Regions.{others}
-use Rattle.protocol.specs.States.{source}
 use Rattle.sets.proofs.LowestMember.{lowest-below}
+use Rattle.protocol.specs.States.{source}
+use Rattle.recovery.specs.Regions.{others}
 use Rattle.recovery.proofs.regions.others.Statement.{statement}
 use Rattle.recovery.proofs.regions.others.Tie as tie
 

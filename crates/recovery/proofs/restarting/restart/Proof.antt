@@ -1,9 +1,9 @@
 -- `recovery::restarting::restart` meets its contract. Assumes nothing.
 use mathlib.Core.Path.{refl, sym, ap, _∙_}
 use borrow.Author.Needs.{needs}
+use Rattle.protocol.specs.Calls.{theSet, restartOutcome}
 use Rattle.protocol.proofs.Soundness.{test-agrees}
 use Rattle.protocol.proofs.Passing.{refused, passed}
-use Rattle.protocol.specs.Calls.{theSet, restartOutcome}
 use Rattle.recovery.proofs.Passed.{restart-ready}
 use Rattle.recovery.proofs.restarting.restart.Statement.{statement}
 use Rattle.recovery.proofs.restarting.restart.Tie as tie

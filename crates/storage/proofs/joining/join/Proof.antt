@@ -1,8 +1,8 @@
 -- `storage::joining::join` meets its contract. Assumes nothing.
 use mathlib.Core.Path.{refl, sym, _∙_}
 use borrow.Author.Needs.{needs}
-use Rattle.protocol.proofs.Passing.{refused, passed}
 use Rattle.protocol.specs.Calls.{joinOutcome}
+use Rattle.protocol.proofs.Passing.{refused, passed}
 use Rattle.storage.proofs.Passed.{join-ready}
 use Rattle.storage.proofs.joining.join.Statement.{statement}
 use Rattle.storage.proofs.joining.join.Tie as tie

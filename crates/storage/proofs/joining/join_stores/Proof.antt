@@ -3,8 +3,8 @@ use native.Mathlib.Omega.{arith}
 use borrow.Author.Needs.{needs}
 use Rattle.sets.proofs.Bounds.{below-with}
 use Rattle.protocol.proofs.Backing.{source-known}
-use Rattle.tally.proofs.Carrying.{carried}
 use Rattle.protocol.proofs.Soundness.{live-known}
+use Rattle.tally.proofs.Carrying.{carried}
 use Rattle.storage.proofs.JoinList.{join-ran, join-length, source-other}
 use Rattle.storage.proofs.joining.join_stores.Statement.{statement}
 use Rattle.storage.proofs.joining.join_stores.Tie as tie

@@ -3,7 +3,7 @@ use mathlib.Core.Path.{refl, sym, _∙_}
 use borrow.Author.Needs.{needs}
 use Rattle.protocol.specs.Calls.{readOutcome}
 use Rattle.protocol.proofs.Passing.{refused, passed}
-use Rattle.storage.proofs.Passed.{read-passed}
+use Rattle.storage.proofs.Passed.{read-ready}
 use Rattle.storage.proofs.reading.read.Statement.{statement}
 use Rattle.storage.proofs.reading.read.Tie as tie
 
@@ -23,7 +23,7 @@ load-requires : tie.Need-load-requires
 load-requires c κs =
     let start = c .before .before .before .before in
     rw (c .before .before .source .ensures, c .before .before .before .live .ensures)
-    (read-passed _ _ _ (start .before .before .before .before .args .output .now) (sym (start .before .block-refusal .ensures _ _ refl refl) ∙ start .if1 .taken))
+    (read-ready _ _ _ (start .before .before .before .before .args .output .now) (sym (start .before .block-refusal .ensures _ _ refl refl) ∙ start .if1 .taken))
 
 without-stores-requires : tie.Need-without-stores-requires
 without-stores-requires c κs = search needs

@@ -1,9 +1,9 @@
 -- `storage::writing::write` meets its contract. Assumes nothing.
 use mathlib.Core.Path.{refl, sym, _∙_}
 use borrow.Author.Needs.{needs}
-use Rattle.protocol.proofs.Passing.{refused, passed}
 use Rattle.protocol.specs.Calls.{writeOutcome}
-use Rattle.storage.proofs.Passed.{write-passed}
+use Rattle.protocol.proofs.Passing.{refused, passed}
+use Rattle.storage.proofs.Passed.{write-ready}
 use Rattle.storage.proofs.writing.write.Statement.{statement}
 use Rattle.storage.proofs.writing.write.Tie as tie
 
@@ -13,7 +13,7 @@ block-refusal-requires c κs = search needs
 write-stores-requires : tie.Need-write-stores-requires
 write-stores-requires c κs =
     let a = c .before .before .before .before .before .args in
-    write-passed (a .s) (a .area .now) (a .k) (a .bytes .now) (sym (c .before .before .block-refusal .ensures _ _ refl refl) ∙ c .before .if1 .taken)
+    write-ready (a .s) (a .area .now) (a .k) (a .bytes .now) (sym (c .before .before .block-refusal .ensures _ _ refl refl) ∙ c .before .if1 .taken)
 
 without-stores-requires : tie.Need-without-stores-requires
 without-stores-requires c κs = search needs

@@ -2,8 +2,8 @@
 use native.Mathlib.Omega.{arith}
 use borrow.Author.Needs.{needs}
 use Rattle.protocol.specs.Geometry.{regionOf}
-use Rattle.tally.proofs.Carrying.{carried}
 use Rattle.protocol.proofs.Soundness.{live-known}
+use Rattle.tally.proofs.Carrying.{carried}
 use Rattle.storage.proofs.WriteList.{write-ran, write-length}
 use Rattle.storage.proofs.writing.write_stores.Statement.{statement}
 use Rattle.storage.proofs.writing.write_stores.Tie as tie

@@ -1,8 +1,8 @@
 -- `stores::labels::store_label` meets its contract. Assumes nothing.
 use native.Mathlib.Omega.{arith}
 use borrow.Author.Needs.{needs}
-use Rattle.stores.proofs.Changed.{label-made}
 use Rattle.sets.proofs.Tests.{or-parts, positive}
+use Rattle.stores.proofs.Changed.{label-made}
 use Rattle.stores.proofs.Runs.{none-made}
 use Rattle.stores.proofs.labels.store_label.Statement.{statement}
 use Rattle.stores.proofs.labels.store_label.Tie as tie
