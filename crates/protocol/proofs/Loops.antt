@@ -23,6 +23,11 @@ or-last P n d h low last = go (same-or-not d n)
     go (inl e) = rw e last
     go (inr ne) = low (omega arith)
 
+-- a number other than n is below n + 1 where it is below n
+pub not-last : (d n : ℕ) → d ≢ n → ltb d (suc n) ≡ ltb d n
+not-last d n other =
+    same-test (ltb d (suc n)) (ltb d n) (λ p. lt-ltb d n (omega (arith, ltb-true d (suc n) p))) (λ p. lt-ltb d (suc n) (omega (arith, ltb-true d n p)))
+
 -- ---- tests of all, and of some
 
 pub all-at : (n : ℕ) (p : ℕ → Bool) → allBelow n p ≡ true → (d : ℕ) → d < n → p d ≡ true
@@ -176,11 +181,7 @@ for-one n d f below = alone n ∙ rw (lt-ltb d n below)
   where
     last : (i : ℕ) (t : Bool) → eqb i d ≡ t → cond (ltb d i) (f d) [] ++ cond t (f i) [] ≡ cond (ltb d (suc i)) (f d) []
     last i true e = rw (eqb-true i d e, le-ltb d d (omega arith), lt-ltb d (suc d) (omega arith))
-    last i false e =
-        let other : i ≢ d = eqb-false i d e in
-        append-nil (cond (ltb d i) (f d) [])
-        ∙ ap (λ t. cond t (f d) [])
-        (same-test (ltb d i) (ltb d (suc i)) (λ p. lt-ltb d (suc i) (omega (arith, ltb-true d i p))) (λ p. lt-ltb d i (omega (arith, ltb-true d (suc i) p))))
+    last i false e = rw (not-last d i (λ z. eqb-false i d e (sym z))) (append-nil _)
 
     alone : (i : ℕ) → ascending i (λ e. cond (has (singleton d) e) (f e) []) ≡ cond (ltb d i) (f d) []
     alone zero = rw (le-ltb d 0 (omega arith))

@@ -1,6 +1,5 @@
 -- The disks on which a region is dirty, as a set: which they are, and the lists that the labels fix as lists over sets. Assumes nothing.
 use mathlib.Core.Path.{_≡_, refl, sym, ap, _∙_}
-use mathlib.Core.Logic.{_≢_}
 use mathlib.Core.Bool.{Bool, true, false, not, cond, _&&_, _||_, and-true, and-false, or-false}
 use mathlib.Core.List.{List, [], _∷_}
 use Prim.Native.Nat.{ℕ, zero, suc, _<_}
@@ -18,7 +17,7 @@ use Rattle.label.specs.declared.Label.{Label}
 use Rattle.protocol.specs.Loops.{forEach, some}
 use Rattle.protocol.specs.States.{isDirty}
 use Rattle.protocol.specs.Stores.{Store}
-use Rattle.protocol.proofs.Loops.{same-turns, for-length, some-member, some-is}
+use Rattle.protocol.proofs.Loops.{not-last, same-turns, for-length, some-member, some-is}
 use Rattle.tally.specs.DirtyDisks.{dirtyDisks}
 
 module _ (labels : List Label) (r : ℕ) where
@@ -36,11 +35,7 @@ module _ (labels : List Label) (r : ℕ) where
 
       go : (t : Bool) → eqb d n ≡ t → ((ltb d n && isDirty labels d r) || (isDirty labels n r && t)) ≡ (ltb d (suc n) && isDirty labels d r)
       go true e = rw (eqb-true d n e, le-ltb n n (omega arith), lt-ltb n (suc n) (omega arith)) (and-true (isDirty labels n r))
-      go false e =
-          let other : d ≢ n = eqb-false d n e in
-          rw (and-false (isDirty labels n r), or-false (ltb d n && isDirty labels d r))
-          (ap (λ t. t && isDirty labels d r)
-          (same-test (ltb d n) (ltb d (suc n)) (λ p. lt-ltb d (suc n) (omega (arith, ltb-true d n p))) (λ p. lt-ltb d n (omega (arith, ltb-true d (suc n) p)))))
+      go false e = rw (and-false (isDirty labels n r), or-false (ltb d n && isDirty labels d r), not-last d n (eqb-false d n e))
 
   dirty-known : (n : ℕ) → below (dirtyDisks n labels r) n ≡ true
   dirty-known n =
