@@ -24,7 +24,7 @@ use Rattle.protocol.specs.Loops.{ascending}
 use Rattle.protocol.specs.States.{blank, labelAt}
 use Rattle.protocol.specs.Soundness.{InRange, FitLabel, Sound}
 use Rattle.protocol.specs.Outcomes.{refusedOr}
-use Rattle.protocol.specs.Saving.{slotSize, slotBytes, saveOutcome, slotReading, slotRefusals, assembleRefusals, assembled, assembleAnswer, SavedAssembles}
+use Rattle.protocol.specs.Saving.{slotSize, slotBytes, saveRefusals, saveOutcome, slotReading, slotRefusals, assembleRefusals, assembled, assembleAnswer, SavedAssembles}
 use Rattle.protocol.proofs.Loops.{Each, each-ascending}
 use Rattle.protocol.proofs.Soundness.{not-outside, test-agrees}
 use Rattle.protocol.proofs.Turns.{even-length, even-turn}
@@ -54,21 +54,21 @@ module _ (n b d : ℕ) (l : Label) (range : InRange n b) (low : d < n) (fit : Fi
 -- ---- the slots of a state
 
 -- what save puts out for disk d, and for all
-abbrev slotOf : State → ℕ → List ℕ
+abbrev pub slotOf : State → ℕ → List ℕ
 slotOf s d = slotBytes d (s .disks) (labelAt (s .labels) d)
 
 abbrev slotsOf : State → List ℕ
 slotsOf s = ascending (s .disks) (slotOf s)
 
 -- each slot has its size
-slot-length : (s : State) (d : ℕ) → length (slotOf s d) ≡ slotSize
+pub slot-length : (s : State) (d : ℕ) → length (slotOf s d) ≡ slotSize
 unfolding slotBytes
 slot-length s d = simp (length-append, length-replicate) (add-sub-of-le (narrow-codec .lengths d (s .disks) (labelAt (s .labels) d) .1))
 
 module _ (s : State) (fit : Sound s) where
   -- save takes a sound state, and puts these slots out
   saved : (area slots : List ℕ) → length slots ≡ slotSize * s .disks → saveOutcome s area slots .output ≡ slotsOf s
-  unfolding saveOutcome refusedOr firstOf
+  unfolding saveOutcome saveRefusals refusedOr firstOf
   saved area slots e = rw (test-agrees s .1 fit, eq-eqb _ _ e)
 
   -- each is read as the label that it was written for

@@ -147,15 +147,18 @@ theSet several = 0
 unfoldable pub foundBy : State → Found
 foundBy s = named (s .disks) (s .online) (s .labels)
 
--- "Restart: 7, running. 13. 14. 15."
-unfoldable pub restartRefusals : State → List ℕ → List (ℕ × Bool)
-restartRefusals s area =
+-- "Restart: 7, running. 13. 14. 15.", where the labels name this
+abbrev pub refusalsFinding : State → List ℕ → Found → List (ℕ × Bool)
+refusalsFinding s area found =
     unsound s ∷
     areaUnfit s area ∷
     (7, isRunning (s .power)) ∷
-    (13, isNone (foundBy s)) ∷
-    (14, isSeveral (foundBy s)) ∷
+    (13, isNone found) ∷
+    (14, isSeveral found) ∷
     []
+
+unfoldable pub restartRefusals : State → List ℕ → List (ℕ × Bool)
+restartRefusals s area = refusalsFinding s area (foundBy s)
 
 unfoldable pub restartOutcome : State → List ℕ → List ℕ → ℕ → Outcome
 restartOutcome s area output budget =

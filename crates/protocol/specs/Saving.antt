@@ -35,10 +35,14 @@ wrongSlots n slots = not (eqb (length slots) (slotSize * n))
 unfoldable pub slotBytes : ℕ → ℕ → Label → List ℕ
 slotBytes d n l = encode narrow d n l ++ replicate (slotSize - length (encode narrow d n l)) 0
 
--- "Save: 2, the slot buffer is not 5 × n bytes." The slot buffer is its output.
+-- "Save: 2, the slot buffer is not 5 × n bytes."
+unfoldable pub saveRefusals : State → List ℕ → List (ℕ × Bool)
+saveRefusals s slots = unsound s ∷ (2, wrongSlots (s .disks) slots) ∷ []
+
+-- The slot buffer is its output.
 unfoldable pub saveOutcome : State → List ℕ → List ℕ → Outcome
 saveOutcome s area slots =
-    refusedOr (unsound s ∷ (2, wrongSlots (s .disks) slots) ∷ []) s area slots
+    refusedOr (saveRefusals s slots) s area slots
     (outcome 0 0 s area (ascending (s .disks) (λ d. slotBytes d (s .disks) (labelAt (s .labels) d))))
 
 -- ---- assemble

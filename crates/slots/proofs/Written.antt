@@ -1,12 +1,10 @@
 -- Slots that are written one after the other. Assumes nothing.
 use mathlib.Core.Path.{_≡_, refl, sym, ap, _∙_}
-use mathlib.Core.Bool.{not}
 use mathlib.Core.List.{List, [], _∷_, _++_, append-nil, append-assoc}
 use Prim.Native.Nat.{ℕ, zero, suc, _+_, _-_, _*_, _≤_, _<_}
-use native.Mathlib.Nat.{sub-self, zero-add, mul-suc, add-sub-of-le, add-sub-cancel-left}
+use native.Mathlib.Nat.{sub-self, zero-add, mul-suc, add-sub-cancel-left}
 use native.Mathlib.Numerals.{add-one}
 use native.Mathlib.Omega.{arith}
-use lib.Dec.{eqb}
 use lib.ListN.{length, getD, set, take, drop, replicate, length-append, length-take, length-drop, length-replicate, take-append-drop, drop-of-length-le}
 use lib.Seq.{drop-cons, take-append-seam, set-at, take-at, drop-at, drop-drop, drop-length}
 use borrow.Author.Tests.{eqb-true, lt-leb, not-false}
@@ -24,10 +22,10 @@ use Rattle.protocol.specs.declared.State.{State}
 use Rattle.protocol.specs.Loops.{ascending}
 use Rattle.protocol.specs.States.{labelAt}
 use Rattle.protocol.specs.Soundness.{Sound}
-use Rattle.protocol.specs.Calls.{unsound}
-use Rattle.protocol.specs.Saving.{slotSize, slotBytes}
+use Rattle.protocol.specs.Saving.{slotSize, slotBytes, saveRefusals}
 use Rattle.protocol.proofs.Soundness.{not-outside, test-agrees}
 use Rattle.protocol.proofs.Turns.{even-length}
+use Rattle.protocol.proofs.Saving.{slotOf, slot-length}
 use Rattle.protocol.proofs.Assembling.{right-set}
 
 -- ---- the rest of a slot
@@ -56,10 +54,6 @@ zero-turn old now from i h l e =
 -- ---- one slot
 
 module _ (d n : ℕ) (l : Label) where
-  pub slot-length : length (slotBytes d n l) ≡ slotSize
-  unfolding slotBytes
-  slot-length = simp (length-append, length-replicate) (add-sub-of-le (narrow-codec .lengths d n l .1))
-
   -- in a slot that the writer takes
   module _ (slot : List ℕ) (size : length slot ≡ slotSize) (none : writeRefusal narrow d n l slotSize ≡ 0) {w : Written} (e : w ≡ written narrow d n l (length slot)) where
     label-length : w .length ≡ length (encode narrow d n l)
@@ -76,10 +70,6 @@ module _ (d n : ℕ) (l : Label) where
         let end : drop slotSize (bytes ++ drop (length bytes) slot) ≡ [] =
         drop-of-length-le _ {i = slotSize} (simp (length-append, length-drop) (omega (arith, narrow-codec .lengths d n l .1))) in
         zeros ∙ rw (label-length, h, size, none, zero-add, take-append-seam, end, append-nil)
-
--- the slot of disk d
-abbrev slotOf : State → ℕ → List ℕ
-slotOf s d = slotBytes d (s .disks) (labelAt (s .labels) d)
 
 -- the writer takes a sound state's labels
 pub label-taken : (s : State) (d : ℕ) → Sound s → d < s .disks → writeRefusal narrow d (s .disks) (labelAt (s .labels) d) slotSize ≡ 0
@@ -103,7 +93,7 @@ module _ (s : State) (old now : List ℕ) (d : ℕ) (e : now ≡ ascending d (sl
       → putMid (slotSize * d) (slotSize * d + slotSize - slotSize * d) now slot ≡ ascending (d + 1) (slotOf s) ++ drop (slotSize * (d + 1)) old
   unfolding ascending
   slots-turn h =
-      let before = even-length slotSize (slotOf s) (λ i. slot-length i (s .disks) (labelAt (s .labels) i)) d in
+      let before = even-length slotSize (slotOf s) (slot-length s) d in
       rw (
         e,
         h,
@@ -121,7 +111,8 @@ module _ (s : State) (old now : List ℕ) (d : ℕ) (e : now ≡ ascending d (sl
 
 -- ---- where save is not refused
 
-pub save-passed : (s : State) (size : ℕ) → firstOf (unsound s ∷ (2, not (eqb size (slotSize * s .disks))) ∷ []) ≡ 0 → Sound s × (size ≡ slotSize * s .disks)
-save-passed s size e =
-    let no = none-at (unsound s ∷ (2, not (eqb size (slotSize * s .disks))) ∷ []) refl e in
+pub save-ready : (s : State) (slots : List ℕ) → firstOf (saveRefusals s slots) ≡ 0 → Sound s × (length slots ≡ slotSize * s .disks)
+unfolding saveRefusals
+save-ready s slots e =
+    let no = none-at (saveRefusals s slots) refl e in
     (test-agrees s .0 (not-false _ (no 0)), eqb-true _ _ (not-false _ (no 1)))

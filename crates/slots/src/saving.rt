@@ -1,9 +1,7 @@
 // Saving a state's labels to slots.
 ghost use mathlib.Core.Path.{_≡_};
-ghost use mathlib.Core.Bool.{not};
-ghost use mathlib.Core.List.{List, [], _∷_};
+ghost use mathlib.Core.List.{List};
 ghost use Prim.Native.Nat.{ℕ, _*_};
-ghost use lib.Dec.{eqb};
 ghost use lib.ListN.{length};
 ghost use Rattle.label.specs.Form.{narrow};
 ghost use Rattle.label.specs.Refusals.{firstOf};
@@ -11,8 +9,7 @@ ghost use Rattle.label.specs.Writing.{writeRefusal};
 ghost use Rattle.protocol.specs.Loops.{ascending};
 ghost use Rattle.protocol.specs.States.{labelAt};
 ghost use Rattle.protocol.specs.Soundness.{Sound};
-ghost use Rattle.protocol.specs.Calls.{unsound};
-ghost use Rattle.protocol.specs.Saving.{slotSize, slotBytes, saveOutcome};
+ghost use Rattle.protocol.specs.Saving.{slotSize, slotBytes, saveRefusals, saveOutcome};
 use crate::form::SLOT_SIZE;
 use crate::form::wrong_size;
 use label::Label;
@@ -54,7 +51,7 @@ fn write_slots(s: State, slots: &mut [u8])
 
 // "Every call that takes a state: 1, the state is not sound." "Save: 2, the slot buffer is not 5 × n bytes."
 fn save_refusal(s: State, size: usize) -> u8
-    ensures { λ r. ⌜ r ≡ firstOf (unsound s ∷ (2, not (eqb size (slotSize * s .disks))) ∷ []) ⌝ }
+    ensures { λ r. ⌜ ((held : List ℕ) → length held ≡ size → r ≡ firstOf (saveRefusals s held)) ⌝ }
 {
     let disks = s.disks as usize;
     let fit = sound(s);

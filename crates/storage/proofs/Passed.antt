@@ -19,6 +19,7 @@ use Rattle.protocol.proofs.Backing.{source-known}
 use Rattle.area.specs.Parts.{InArea}
 use Rattle.stores.proofs.Copying.{in-area}
 use Rattle.tally.specs.Ready.{Ready}
+use Rattle.tally.proofs.Fitting.{ready-fits}
 
 -- read and write
 module _ (s : State) (area : List ℕ) (k : ℕ) (bytes : List ℕ) (e : firstOf (blockRefusals s area k bytes) ≡ 0) where
@@ -32,9 +33,8 @@ module _ (s : State) (area : List ℕ) (k : ℕ) (bytes : List ℕ) (e : firstOf
   pub read-ready : InArea (s .blocks) (source (live s)) k area × (length bytes ≡ blockSize)
   read-ready =
       let (ready, known, full) = write-ready in
-      let range = ready .fit .range in
       let from = source-known (s .disks) (live s) (block-passed s area k bytes e .some) (live-known s (ready .fit)) in
-      (in-area (s .disks) (s .blocks) _ k area (record { disks = range .disks; blocks = range .blocks; size = ready .size }) from known, full)
+      (in-area (s .disks) (s .blocks) _ k area (ready-fits ready) from known, full)
 
 pub join-ready : (s : State) (area : List ℕ) (d : ℕ) → firstOf (joinRefusals s area d) ≡ 0
     → Ready s area × (0 < live s) × (d < s .disks) × (has (live s) d ≡ false)

@@ -7,7 +7,7 @@ use Rattle.protocol.specs.Stores.{Store, mark, clear, propose, commit, withDirt
 use Rattle.stores.specs.declared.Change.{Change}
 use Rattle.stores.specs.declared.Change.the-variants.{Mark, Clear, Propose, Commit}
 
--- a region has its bit
+-- a region has its bit in the dirty map, which is a mask as a set of disks is
 abbrev pub FitChange : Change → Type 0
 FitChange (Mark r) = r < mostDisks
 FitChange (Clear r) = r < mostDisks

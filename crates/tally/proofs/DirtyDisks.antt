@@ -21,7 +21,7 @@ use Rattle.protocol.proofs.Loops.{not-last, same-turns, for-length, some-member
 use Rattle.tally.specs.DirtyDisks.{dirtyDisks}
 
 module _ (labels : List Label) (r : ℕ) where
-  pub has-dirty : (n d : ℕ) → has (dirtyDisks n labels r) d ≡ (ltb d n && isDirty labels d r)
+  has-dirty : (n d : ℕ) → has (dirtyDisks n labels r) d ≡ (ltb d n && isDirty labels d r)
   unfolding dirtyDisks
   has-dirty zero d = has-empty d ∙ rw (le-ltb d 0 (omega arith))
   has-dirty (suc n) d = with-last (isDirty labels n r) ∙ rw (has-dirty n d) (go (eqb d n) refl)

@@ -2,3 +2,4 @@
 pub mod DirtyDisks
 pub mod Lengths
 pub mod Carrying
+pub mod Fitting

@@ -2,8 +2,9 @@
 use mathlib.Core.Path.{refl, _∙_}
 use borrow.Author.Needs.{needs}
 use Rattle.label.proofs.Order.{in-turn}
+use Rattle.protocol.specs.Calls.{refusalsFinding}
 use Rattle.naming.specs.Meaning.{foundOf}
-use Rattle.recovery.proofs.SoundFirst.{refusalsOf, sound-first}
+use Rattle.recovery.proofs.SoundFirst.{sound-first}
 use Rattle.recovery.proofs.refusals.restart_refusal.Statement.{statement}
 use Rattle.recovery.proofs.refusals.restart_refusal.Tie as tie
 
@@ -46,7 +47,7 @@ or-else-requires-5 c κs = search needs
 returns : tie.Need-returns
 returns c held h same =
     let a = c .before .before .before .before .before .before .before .before .before .before .before .before .args in
-    in-turn (refusalsOf (a .s) held (foundOf (a .found))) refl
+    in-turn (refusalsFinding (a .s) held (foundOf (a .found))) refl
     (rw (
       h,
       c .or-else5 .ensures,

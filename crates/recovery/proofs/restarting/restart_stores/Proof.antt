@@ -5,6 +5,7 @@ use borrow.Author.Needs.{needs}
 use Rattle.protocol.specs.Lists.{mends, commits, restartList}
 use Rattle.stores.proofs.Runs.{in-sequence}
 use Rattle.tally.proofs.Lengths.{commits-size}
+use Rattle.tally.proofs.Fitting.{ready-fits}
 use Rattle.tally.proofs.Carrying.{carried}
 use Rattle.recovery.proofs.restarting.restart_stores.Statement.{statement}
 use Rattle.recovery.proofs.restarting.restart_stores.Tie as tie
@@ -30,9 +31,7 @@ mend-all-requires : tie.Need-mend-all-requires
 mend-all-requires c κs =
     let sized = c .before .before .before .before in
     let start = sized .before .before .before in
-    let fit = start .pre .0 .fit in
-    rw (sized .size-of .ensures)
-    (record { disks = fit .range .disks; blocks = fit .range .blocks; size = start .pre .0 .size }, start .pre .1, start .pre .2)
+    rw (sized .size-of .ensures) (ready-fits (start .pre .0), start .pre .1, start .pre .2)
 
 store-labels-requires : tie.Need-store-labels-requires
 store-labels-requires c κs =

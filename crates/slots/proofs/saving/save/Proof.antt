@@ -1,10 +1,9 @@
 -- `slots::saving::save` meets its contract. Assumes nothing.
-use mathlib.Core.Path.{sym, _∙_}
+use mathlib.Core.Path.{refl, sym, _∙_}
 use borrow.Author.Needs.{needs}
-use borrow.Author.Tests.{ne-eqb}
-use Rattle.protocol.specs.Outcomes.{refusedOr}
 use Rattle.protocol.specs.Saving.{saveOutcome}
-use Rattle.slots.proofs.Written.{save-passed}
+use Rattle.protocol.proofs.Passing.{refused, passed}
+use Rattle.slots.proofs.Written.{save-ready}
 use Rattle.slots.proofs.saving.save.Statement.{statement}
 use Rattle.slots.proofs.saving.save.Tie as tie
 
@@ -12,7 +11,9 @@ save-refusal-requires : tie.Need-save-refusal-requires
 save-refusal-requires c κs = search needs
 
 write-slots-requires : tie.Need-write-slots-requires
-write-slots-requires c κs = save-passed _ _ (sym (c .before .before .save-refusal .ensures) ∙ c .before .if1 .taken)
+write-slots-requires c κs =
+    let a = c .before .before .before .before .args in
+    save-ready (a .s) (a .slots .now) (sym (c .before .before .save-refusal .ensures _ refl) ∙ c .before .if1 .taken)
 
 without-stores-requires : tie.Need-without-stores-requires
 without-stores-requires c κs = search needs
@@ -24,14 +25,15 @@ same-length : tie.Need-same-length
 same-length c = search needs
 
 returns : tie.Need-returns
-unfolding saveOutcome refusedOr
-returns c =
-    let none = sym (c .before .before .before .before .before .before .save-refusal .ensures) ∙ c .before .before .before .before .before .if1 .taken in
-    λ area. rw (none, c .without-stores .ensures, c .before .before .before .write-slots .ensures)
+unfolding saveOutcome
+returns c area =
+    let branch = c .before .before .before .before .before in
+    passed _ _ _ _ _ (branch .before .save-refusal .ensures _ refl) (branch .if1 .taken)
+    (rw (c .without-stores .ensures, c .before .before .before .write-slots .ensures))
 
 returns-2 : tie.Need-returns-2
-unfolding saveOutcome refusedOr
-returns-2 c = λ area. rw (← c .before .before .save-refusal .ensures, ne-eqb _ 0 (c .before .if1 .left), c .without-stores2 .ensures)
+unfolding saveOutcome
+returns-2 c area = refused _ _ _ _ _ (c .before .before .save-refusal .ensures _ refl) (c .before .if1 .left) (c .without-stores2 .ensures)
 
 pub save-spec : {M : Type 1} → statement M
 save-spec =

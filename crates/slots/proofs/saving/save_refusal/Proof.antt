@@ -2,6 +2,7 @@
 use mathlib.Core.Path.{refl}
 use borrow.Author.Needs.{needs}
 use Rattle.label.proofs.Order.{in-turn}
+use Rattle.protocol.specs.Saving.{saveRefusals}
 use Rattle.slots.proofs.saving.save_refusal.Statement.{statement}
 use Rattle.slots.proofs.saving.save_refusal.Tie as tie
 
@@ -21,7 +22,16 @@ or-else-requires-2 : tie.Need-or-else-requires-2
 or-else-requires-2 c κs = search needs
 
 returns : tie.Need-returns
-returns c = in-turn _ refl (rw (c .or-else2 .ensures, c .before .or-else .ensures, c .before .before .wrong-size .ensures, c .before .before .before .sound .ensures))
+unfolding saveRefusals
+returns c held h =
+    in-turn _ refl
+    (rw (
+      h,
+      c .or-else2 .ensures,
+      c .before .or-else .ensures,
+      c .before .before .wrong-size .ensures,
+      c .before .before .before .sound .ensures,
+    ))
 
 pub save-refusal-spec : {M : Type 1} → statement M
 save-refusal-spec =

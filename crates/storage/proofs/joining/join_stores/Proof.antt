@@ -4,6 +4,7 @@ use borrow.Author.Needs.{needs}
 use Rattle.sets.proofs.Bounds.{below-with}
 use Rattle.protocol.proofs.Backing.{source-known}
 use Rattle.protocol.proofs.Soundness.{live-known}
+use Rattle.tally.proofs.Fitting.{ready-fits}
 use Rattle.tally.proofs.Carrying.{carried}
 use Rattle.storage.proofs.JoinList.{join-ran, join-length, source-other}
 use Rattle.storage.proofs.joining.join_stores.Statement.{statement}
@@ -63,7 +64,7 @@ copy-blocks-requires c κs =
     let s = start .args .s in
     let fit = start .pre .0 .fit in
     rw (sized .size-of .ensures, c .source .ensures, at-live .live .ensures, at-new .singleton .ensures) (
-      record { disks = fit .range .disks; blocks = fit .range .blocks; size = start .pre .0 .size },
+      ready-fits (start .pre .0),
       source-known (s .disks) _ (start .pre .1) (live-known s fit),
       source-other s _ (start .pre .1) (start .pre .3),
       omega arith,

@@ -3,6 +3,7 @@ use native.Mathlib.Omega.{arith}
 use borrow.Author.Needs.{needs}
 use Rattle.protocol.specs.Geometry.{regionOf}
 use Rattle.protocol.proofs.Soundness.{live-known}
+use Rattle.tally.proofs.Fitting.{ready-fits}
 use Rattle.tally.proofs.Carrying.{carried}
 use Rattle.storage.proofs.WriteList.{write-ran, write-length}
 use Rattle.storage.proofs.writing.write_stores.Statement.{statement}
@@ -58,7 +59,7 @@ store-blocks-requires c κs =
     let sized = c .before .before .before .before .before .before .before .before .before .before .before in
     let start = sized .before .before .before .before in
     rw (sized .size-of .ensures)
-    (record { disks = start .pre .0 .fit .range .disks; blocks = start .pre .0 .fit .range .blocks; size = start .pre .0 .size }, start .pre .1, start .pre .2)
+    (ready-fits (start .pre .0), start .pre .1, start .pre .2)
 
 ended-requires : tie.Need-ended-requires
 ended-requires c κs = search needs
