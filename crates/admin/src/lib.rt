@@ -1,5 +1,5 @@
-// The calls that store nothing on a disk: fresh, which begins a cabinet, and lose, return and cut. Each is for any state,
-// buffers and numbers.
+// The calls without a list of stores: fresh, which begins a cabinet and clears its disk area, and lose, return and cut, which
+// change the state alone. Each is for any state, buffers and numbers.
 mod formatting;
 mod plugging;
 mod power;
