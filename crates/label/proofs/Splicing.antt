@@ -1,11 +1,12 @@
 -- Bytes stored over others. Assumes nothing.
-use mathlib.Core.Path.{_≡_, sym, _∙_}
+use mathlib.Core.Path.{_≡_, sym, ap, _∙_}
 use mathlib.Core.List.{List, [], _∷_, _++_, append-assoc}
-use Prim.Native.Nat.{ℕ, _<_}
-use native.Mathlib.Nat.{add-zero, zero-add}
+use Prim.Native.Nat.{ℕ, _+_, _≤_, _<_}
+use native.Mathlib.Nat.{add-zero, zero-add, add-assoc}
 use native.Mathlib.Numerals.{add-one}
-use lib.ListN.{length, drop, set, length-append, take-append-drop}
-use lib.Seq.{set-split, take-append-seam, drop-append-add, drop-drop}
+use native.Mathlib.Omega.{arith}
+use lib.ListN.{length, take, drop, set, length-append, take-append-drop}
+use lib.Seq.{set-split, length-take-le, take-append-seam, drop-append-add, drop-drop}
 use Rattle.label.specs.Writing.{splice}
 
 pub splice-nothing : (old : List ℕ) (at : ℕ) → splice at [] old ≡ old
@@ -16,19 +17,31 @@ pub splice-one : (old : List ℕ) (at v : ℕ) → at < length old → set old a
 unfolding splice
 splice-one old at v h = set-split old at v h ∙ rw (add-one at)
 
-splice-front : (old new : List ℕ) → splice 0 new old ≡ new ++ drop (length new) old
+-- what is stored behind other bytes is stored with them
+pub splice-after : (old first next : List ℕ) (at : ℕ) → at ≤ length old
+    → splice (at + length first) next (splice at first old) ≡ splice at (first ++ next) old
 unfolding splice
-splice-front old new = rw (zero-add (length new))
-
--- what is stored behind the first bytes is stored with them
-pub splice-behind : (old first next : List ℕ) (at : ℕ) → length first ≡ at → splice at next (splice 0 first old) ≡ splice 0 (first ++ next) old
-unfolding splice
-splice-behind old first next at e =
+splice-after old first next at h =
+    let front = take at old ++ first in
+    let e : length front ≡ at + length first = length-append (take at old) first ∙ ap (λ (n : ℕ). n + length first) (length-take-le at old h) in
     rw (
+      ← append-assoc (take at old) first (drop (at + length first) old),
       ← e,
-      splice-front old first,
-      take-append-seam first (drop (length first) old),
-      drop-append-add first (drop (length first) old) (length next),
-      drop-drop (length next) (length first) old,
+      take-append-seam front (drop (length front) old),
+      drop-append-add front (drop (length front) old) (length next),
+      drop-drop (length next) (length front) old,
+      e,
+      length-append first next,
+      ← add-assoc at (length first) (length next),
     )
-    (sym (append-assoc first next _) ∙ rw (zero-add, length-append))
+    (append-assoc (take at old) first _ ∙ ap (λ (l : List ℕ). take at old ++ l) (sym (append-assoc first next _)))
+
+pub splice-behind : (old first next : List ℕ) (at : ℕ) → length first ≡ at → splice at next (splice 0 first old) ≡ splice 0 (first ++ next) old
+splice-behind old first next at e = rw (← e, ← zero-add (length first)) (splice-after old first next 0 (omega arith))
+
+-- the same of functions that store and give the place behind
+pub stored-after : (old first next : List ℕ) (at : ℕ) {r₁ r₂ : ℕ} {o₁ o₂ : List ℕ} → at ≤ length old
+    → (r₁ ≡ at + length first) × (o₁ ≡ splice at first old) → (r₂ ≡ r₁ + length next) × (o₂ ≡ splice r₁ next o₁)
+    → (r₂ ≡ at + length (first ++ next)) × (o₂ ≡ splice at (first ++ next) old)
+stored-after old first next at h a b =
+    (rw (b .0, a .0, length-append first next) (add-assoc at _ _), rw (b .1, a .0, a .1) (splice-after old first next at h))

@@ -7,10 +7,9 @@ use lib.ListN.{length, length-set}
 use borrow.Fn.Kinds.{In}
 use borrow.Fn.PlainCycle.{Measures, is, falls, and}
 use borrow.Author.Needs.{needs}
-use Rattle.label.proofs.Splicing.{splice-one}
+use Rattle.label.proofs.Splicing.{splice-one, splice-after}
 use Rattle.decimal.specs.Numerals.{numeral}
 use Rattle.decimal.proofs.Spelling.{one-digit, one-more, one-longer}
-use Rattle.decimal.proofs.Storing.{splice-after}
 use Rattle.decimal.proofs.put.Reads as put
 use Rattle.decimal.proofs.put.Kinds as put-kinds
 use Rattle.decimal.proofs.+put.Lts-put as put-lts

@@ -1,0 +1,81 @@
+-- Document 01, "The cabinet program": which bytes are which command.
+use mathlib.Core.Bool.{Bool, true, cond, _&&_}
+use mathlib.Core.List.{List, [], _∷_, map}
+use Prim.Native.Nat.{ℕ}
+use lib.Dec.{eqb, ltb, leb}
+use lib.ListN.{length}
+use Rattle.decimal.specs.Numerals.{digit, value}
+use Rattle.protocol.specs.declared.Call.{Call}
+use Rattle.protocol.specs.declared.Call.the-variants.{Read, Write, Join, Clean, Restart, Detach, Attach, PowerOff}
+use Rattle.commands.specs.declared.Command.{Command}
+use Rattle.commands.specs.declared.Command.the-variants.{Format, Perform, Bad}
+
+-- ---- words and numbers
+
+abbrev pub onFirst : ℕ → List (List ℕ) → List (List ℕ)
+onFirst x [] = (x ∷ []) ∷ []
+onFirst x (w ∷ later) = (x ∷ w) ∷ later
+
+-- "one space between": each space (32) ends a word and begins the next. Two spaces have an empty word between them, a space at an end has one beside it.
+unfoldable pub words : List ℕ → List (List ℕ)
+words [] = [] ∷ []
+words (x ∷ line) = cond (eqb x 32) ([] ∷ words line) (onFirst x (words line))
+
+unfoldable pub digits : List ℕ → Bool
+digits [] = true
+digits (x ∷ w) = digit x && digits w
+
+-- "numbers are decimal, 1 to 5 digits, at most 65,535"
+unfoldable pub isNumber : List ℕ → Bool
+isNumber w = digits w && (ltb 0 (length w) && leb (length w) 5 && leb (value w) 65535)
+
+unfoldable pub areNumbers : List (List ℕ) → Bool
+areNumbers [] = true
+areNumbers (w ∷ later) = isNumber w && areNumbers later
+
+-- ---- commands: a letter, and its numbers
+
+-- the entry of a table that a letter has
+abbrev entry : ℕ → List (ℕ × Command) → Command
+entry letter [] = Bad
+entry letter ((x, command) ∷ later) = cond (eqb letter x) command (entry letter later)
+
+-- `c` cut
+abbrev withNone : List (ℕ × Command)
+withNone = (99, Perform PowerOff 0) ∷ []
+
+-- `x d` lose, `r d` return, `q p` quiet, `s p` restart, `g k` read
+abbrev withOne : ℕ → List (ℕ × Command)
+withOne a =
+    (120, Perform (Detach a) 0) ∷
+    (114, Perform (Attach a) 0) ∷
+    (113, Perform (Clean a) 0) ∷
+    (115, Perform (Restart a) 0) ∷
+    (103, Perform (Read a) 0) ∷
+    []
+
+-- `f n b` fresh, `j d p` join
+abbrev withTwo : ℕ → ℕ → List (ℕ × Command)
+withTwo a b = (102, Format a b) ∷ (106, Perform (Join a b) 0) ∷ []
+
+-- `w k v p`, "write a block of 64 bytes v (at most 255) with supply p"
+abbrev withThree : ℕ → ℕ → ℕ → List (ℕ × Command)
+withThree k v p = (119, cond (leb v 255) (Perform (Write k p) v) Bad) ∷ []
+
+unfoldable pub meant : ℕ → List ℕ → Command
+meant letter [] = entry letter withNone
+meant letter (a ∷ []) = entry letter (withOne a)
+meant letter (a ∷ b ∷ []) = entry letter (withTwo a b)
+meant letter (a ∷ b ∷ c ∷ []) = entry letter (withThree a b c)
+meant letter (a ∷ b ∷ c ∷ d ∷ more) = Bad
+
+-- the first word is a letter and the others are numbers
+unfoldable pub spoken : List (List ℕ) → Command
+spoken [] = Bad
+spoken ([] ∷ later) = Bad
+spoken ((letter ∷ []) ∷ later) = cond (areNumbers later) (meant letter (map value later)) Bad
+spoken ((x ∷ y ∷ w) ∷ later) = Bad
+
+-- "Any other line, or one over 32 bytes before its line feed, gives 99 and changes nothing"
+unfoldable pub commandOf : List ℕ → Command
+commandOf line = cond (ltb 32 (length line)) Bad (spoken (words line))

@@ -1,0 +1,30 @@
+// A line of the cabinet program, taken apart (document 01, "The cabinet program").
+ghost use mathlib.Core.Path.{_≡_};
+ghost use Rattle.commands.specs.Commands.{commandOf};
+use letters::decode;
+use protocol::Call;
+use scanner::end_word;
+use scanner::scan_line;
+
+mod letters;
+mod scanner;
+
+// "or one over 32 bytes before its line feed"
+pub const LINE_MOST: usize = 32;
+
+// A fresh, with its n and b; a call of the list, and for a write the byte that fills its block; or any other line.
+pub enum Command {
+    Format { disks: u16, blocks: u16 },
+    Perform { call: Call, byte: u8 },
+    Bad,
+}
+
+// The command that a line is, without its line feed.
+pub fn parse(line: &[u8]) -> Command
+    ensures { λ r. ⌜ r ≡ commandOf (now (line .entry)) ⌝ }
+{
+    if LINE_MOST < line.len() {
+        return Command::Bad;
+    }
+    decode(end_word(scan_line(line)))
+}

@@ -1,0 +1,45 @@
+// The line that answers a line of the cabinet program.
+ghost use mathlib.Core.Path.{_≡_};
+ghost use mathlib.Core.List.{[], _∷_, _++_};
+ghost use Prim.Native.Nat.{_+_, _≤_};
+ghost use lib.ListN.{length};
+ghost use Rattle.label.specs.Writing.{splice};
+ghost use Rattle.decimal.specs.Numerals.{numeral};
+ghost use Rattle.replies.specs.Replies.{field, replyLine};
+use sets::Mask;
+
+// The five numbers: current is G, 0 if stopped; online is R; byte is the first byte read, 0 unless a read was done.
+pub struct Reply {
+    pub result: u8,
+    pub stores: u16,
+    pub current: Mask,
+    pub online: Mask,
+    pub byte: u8,
+}
+
+// Five numbers of at most five digits, and a byte behind each.
+pub const REPLY_MOST: usize = 30;
+
+// Stores a number and the byte that ends it, and gives the place behind them.
+fn put_field(out: &mut [u8], at: usize, n: u16, end: u8) -> usize
+    requires { ⌜ at + 6 ≤ length (now out) ⌝ }
+    ensures { λ r. ⌜ (r ≡ at + length (field n end)) × (now (out .exit) ≡ splice at (field n end) (now (out .entry))) ⌝ }
+    ensures { λ r. ⌜ r ≤ at + 6 ⌝ }
+{
+    let last = decimal::put(out, at, n);
+    out[last] = end;
+    last + 1
+}
+
+// Stores the line of a reply, and gives the place behind it.
+pub fn put_reply(out: &mut [u8], at: usize, reply: Reply) -> usize
+    requires { ⌜ at + 30 ≤ length (now out) ⌝ }
+    ensures { λ r. ⌜ (r ≡ at + length (replyLine reply)) × (now (out .exit) ≡ splice at (replyLine reply) (now (out .entry))) ⌝ }
+    ensures { λ r. ⌜ r ≤ at + 30 ⌝ }
+{
+    let stores = put_field(out, at, reply.result as u16, b' ');
+    let current = put_field(out, stores, reply.stores, b' ');
+    let online = put_field(out, current, reply.current as u16, b' ');
+    let byte = put_field(out, online, reply.online as u16, b' ');
+    put_field(out, byte, reply.byte as u16, b'\n')
+}
