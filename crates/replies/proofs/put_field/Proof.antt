@@ -8,9 +8,6 @@ use Rattle.decimal.proofs.Numerals.{short}
 use borrow.Author.Needs.{needs}
 use Rattle.replies.proofs.put_field.Statement.{statement}
 use Rattle.replies.proofs.put_field.Tie as tie
-use Rattle.replies.proofs.put_field.Reads as reads
-use Rattle.replies.proofs.put_field.Lts as lts
-use Rattle.decimal.proofs.put.Reads as put-reads
 
 put-requires : tie.Need-put-requires
 put-requires c κs = omega (arith, short (c .before .before .args .n) (omega arith))

@@ -9,9 +9,6 @@ use Rattle.replies.specs.Replies.{field}
 use borrow.Author.Needs.{needs}
 use Rattle.replies.proofs.put_reply.Statement.{statement}
 use Rattle.replies.proofs.put_reply.Tie as tie
-use Rattle.replies.proofs.put_reply.Reads as reads
-use Rattle.replies.proofs.put_reply.Lts as lts
-use Rattle.replies.proofs.put_field.Reads as put-field-reads
 
 cast-put-field : tie.Need-cast-put-field
 cast-put-field c = search needs

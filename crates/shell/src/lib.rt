@@ -1,0 +1,110 @@
+// Input in blocks: bytes are held until their line ends, and replies are collected in a buffer.
+ghost use mathlib.Core.Path.{_≡_};
+ghost use Prim.Native.Nat.{_+_, _*_, _≤_};
+ghost use lib.ListN.{length, take};
+ghost use Rattle.label.specs.Writing.{splice};
+ghost use Rattle.protocol.specs.Calls.{zeroState};
+ghost use Rattle.replies.specs.Replies.{replyLine};
+ghost use Rattle.shell.specs.Dialogue.{held, lineEnded, endLine, next, printed, after, says, last, closed, dialogue};
+use commands::LINE_MOST;
+use protocol::State;
+use turns::respond;
+
+// Between two bytes: the cabinet's state, how many bytes of the line under way are held, and how much of the output is used.
+pub struct Shell {
+    pub state: State,
+    pub held: usize,
+    pub used: usize,
+}
+
+// One byte more than a line may have: it is then too long, however long.
+pub const LINE_HELD: usize = LINE_MOST + 1;
+
+pub fn begin() -> Shell
+    ensures { λ r. ⌜ r ≡ record { state = zeroState; held = 0; used = 0 } ⌝ }
+{
+    Shell {
+        state: state::zero(),
+        held: 0,
+        used: 0,
+    }
+}
+
+fn hold(x: u8, h: Shell, line: &mut [u8]) -> Shell
+    requires { ⌜ (h .held ≤ 33) × (length (now line) ≡ 33) ⌝ }
+    ensures line { λ r. ⌜ take (r .held) (now (line .exit)) ≡ held (take (h .held) (now (line .entry))) x ⌝ }
+    ensures rest { λ r. ⌜ (r .state ≡ h .state) × (r .used ≡ h .used) × (r .held ≤ 33) ⌝ }
+{
+    let at = h.held;
+    if at < line.len() {
+        line[at] = x;
+        let state = h.state;
+        return Shell {
+            state: state,
+            held: at + 1,
+            used: h.used,
+        };
+    }
+    h
+}
+
+// The line that is held has ended: it is carried out, and its reply stands behind the others.
+fn end_line(h: Shell, line: &[u8], memory: &mut [u8], out: &mut [u8]) -> Shell
+    requires { ⌜ (h .held ≤ length (now line)) × (h .used + 30 ≤ length (now out)) ⌝ }
+    ensures dialogue { λ r. ⌜ dialogue r (now (line .entry)) (now (memory .exit)) ≡ lineEnded (dialogue h (now (line .entry)) (now (memory .entry))) ⌝ }
+    ensures output { λ r. ⌜ (r .used ≡ h .used + length (replyLine (endLine (dialogue h (now (line .entry)) (now (memory .entry))) .reply))) × (now (out .exit) ≡ splice (h .used) (replyLine (endLine (dialogue h (now (line .entry)) (now (memory .entry))) .reply)) (now (out .entry))) ⌝ }
+    ensures room { λ r. ⌜ r .used ≤ h .used + 30 ⌝ }
+    ensures ended { λ r. ⌜ r .held ≡ 0 ⌝ }
+{
+    let held = h.held;
+    let s = h.state;
+    let t = respond(commands::parse(&line[..held]), s, memory);
+    let state = t.state;
+    let reply = t.reply;
+    Shell {
+        state: state,
+        held: 0,
+        used: replies::put_reply(out, h.used, reply),
+    }
+}
+
+fn take_byte(x: u8, h: Shell, line: &mut [u8], memory: &mut [u8], out: &mut [u8]) -> Shell
+    requires { ⌜ (h .held ≤ 33) × (length (now line) ≡ 33) × (h .used + 30 ≤ length (now out)) ⌝ }
+    ensures dialogue { λ r. ⌜ dialogue r (now (line .exit)) (now (memory .exit)) ≡ next x (dialogue h (now (line .entry)) (now (memory .entry))) ⌝ }
+    ensures output { λ r. ⌜ (r .used ≡ h .used + length (printed x (dialogue h (now (line .entry)) (now (memory .entry))))) × (now (out .exit) ≡ splice (h .used) (printed x (dialogue h (now (line .entry)) (now (memory .entry)))) (now (out .entry))) ⌝ }
+    ensures room { λ r. ⌜ (r .held ≤ 33) × (r .used ≤ h .used + 30) ⌝ }
+{
+    if x == b'\n' {
+        return end_line(h, line, memory, out);
+    }
+    hold(x, h, line)
+}
+
+// Takes a block of input, cut anywhere. What its lines print stands in the output behind what was there.
+pub fn serve(block: &[u8], h: Shell, line: &mut [u8], memory: &mut [u8], out: &mut [u8]) -> Shell
+    requires { ⌜ (h .held ≤ 33) × (length (now line) ≡ 33) × (h .used + length (now block) * 30 ≤ length (now out)) ⌝ }
+    ensures dialogue { λ r. ⌜ dialogue r (now (line .exit)) (now (memory .exit)) ≡ after (now (block .entry)) (dialogue h (now (line .entry)) (now (memory .entry))) ⌝ }
+    ensures output { λ r. ⌜ (r .used ≡ h .used + length (says (now (block .entry)) (dialogue h (now (line .entry)) (now (memory .entry))))) × (now (out .exit) ≡ splice (h .used) (says (now (block .entry)) (dialogue h (now (line .entry)) (now (memory .entry)))) (now (out .entry))) ⌝ }
+    ensures room { λ r. ⌜ (r .held ≤ 33) × (r .used ≤ h .used + length (now (block .entry)) * 30) ⌝ }
+{
+    let mut q = h;
+    let mut i = 0;
+    while i < block.len() {
+        q = take_byte(block[i], q, line, memory, out);
+        i += 1;
+    }
+    q
+}
+
+// The input has ended, and with it a line that has begun.
+pub fn finish(h: Shell, line: &[u8], memory: &mut [u8], out: &mut [u8]) -> Shell
+    requires { ⌜ (h .held ≤ length (now line)) × (h .used + 30 ≤ length (now out)) ⌝ }
+    ensures dialogue { λ r. ⌜ dialogue r (now (line .entry)) (now (memory .exit)) ≡ closed (dialogue h (now (line .entry)) (now (memory .entry))) ⌝ }
+    ensures output { λ r. ⌜ (r .used ≡ h .used + length (last (dialogue h (now (line .entry)) (now (memory .entry))))) × (now (out .exit) ≡ splice (h .used) (last (dialogue h (now (line .entry)) (now (memory .entry)))) (now (out .entry))) ⌝ }
+    ensures room { λ r. ⌜ (r .held ≡ 0) × (r .used ≤ h .used + 30) ⌝ }
+{
+    if h.held == 0 {
+        return h;
+    }
+    end_line(h, line, memory, out)
+}
