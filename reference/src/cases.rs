@@ -169,7 +169,7 @@ impl Table {
             self.reading(&[2, 0x53, set]);
             self.reading(&[3, 0x31, 2, set]);
         }
-        for count in 0..60 {
+        for count in 0..=60 {
             let bytes: Vec<u8> = (0..count).map(|_| self.random.byte()).collect();
             self.reading(&bytes);
             let mut likely: Vec<u8> = bytes.iter().map(|x| x & 7).collect();
@@ -411,7 +411,8 @@ impl Table {
     fn calls_with_wrong_buffers(&mut self) {
         for round in 0..12 {
             let n = 1 + round % 8;
-            let mut state = self.sound_state(n, 12);
+            let most = if round % 4 == 3 { 64 } else { 12 };
+            let mut state = self.sound_state(n, most);
             if round % 2 == 0 {
                 state = self.running(state);
             }

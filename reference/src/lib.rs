@@ -6,13 +6,14 @@
 
 #![forbid(unsafe_code)]
 
-// pub mod book;
+pub mod book;
 pub mod cabinet;
 pub mod call;
 pub mod case;
 pub mod cases;
-// pub mod claims;
+pub mod claims;
 pub mod corpus;
+pub mod definitions;
 pub mod driver;
 // pub mod explorer;
 pub mod files;
@@ -29,3 +30,4 @@ pub mod sets;
 pub mod slots;
 pub mod state;
 pub mod store;
+pub mod trial;
