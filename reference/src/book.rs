@@ -19,6 +19,15 @@ pub struct Book {
     pub blocks: Vec<u8>,
 }
 
+/// What the book made of a call.
+#[derive(Clone, Copy, Debug, PartialEq, Eq)]
+pub struct Taken {
+    /// The answer of the book's own cabinet.
+    pub answer: Answer,
+    /// Whether the call is a write that counts.
+    pub counted: bool,
+}
+
 impl Book {
     /// The book of a fresh cabinet, or fresh's refusal.
     pub fn open(rules: Rules, n: u16, b: u16) -> Result<Book, u8> {
@@ -32,19 +41,19 @@ impl Book {
         &self.blocks[block * BLOCK..][..BLOCK]
     }
 
-    /// Feeds a call to the book, and says whether it is a write that counts. "Then block k of the book becomes its
-    /// data. The other seven calls leave the book as it is."
-    pub fn take(&mut self, call: &Call) -> bool {
+    /// Feeds a call to the book. If it is a write that counts, "then block k of the book becomes its data. The other
+    /// seven calls leave the book as it is."
+    pub fn take(&mut self, call: &Call) -> Taken {
         let before = self.cabinet.state;
         let answer = self.cabinet.take(call, &mut [0; BLOCK]);
-        let Call::Write { block, data, .. } = call else {
-            return false;
+        let counted = match call {
+            Call::Write { block, data, .. } => self.counts(&before, *block, data, answer),
+            _ => false,
         };
-        let counts = self.counts(&before, *block, data, answer);
-        if counts {
+        if let (Call::Write { block, data, .. }, true) = (call, counted) {
             self.blocks[*block as usize * BLOCK..][..BLOCK].copy_from_slice(data);
         }
-        counts
+        Taken { answer, counted }
     }
 
     /// "A write of block k counts when the stores so made include that of block k on the lowest member of its L."

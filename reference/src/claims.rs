@@ -62,6 +62,11 @@ pub struct Event<'a> {
 }
 
 impl Claim {
+    /// All claims.
+    pub fn all() -> Vec<Claim> {
+        [&Claim::OF_CALLS[..], &Claim::OF_STATES[..]].concat()
+    }
+
     /// The claims about each state that is reached.
     pub const OF_STATES: [Claim; 5] = [
         Claim::Sound,
@@ -83,9 +88,9 @@ impl Claim {
         Claim::RefusedUnchanged,
     ];
 
-    /// The claim in words.
-    pub fn words(self) -> &'static str {
-        match self {
+    /// The claim in words, as these rules have it.
+    pub fn words(self, rules: Rules) -> String {
+        let words = match self {
             Claim::RestartedBlocks => {
                 "after a finished restart each block of each named disk equals the book's"
             }
@@ -98,17 +103,21 @@ impl Claim {
             Claim::NoneUnsound => "no call gives 1",
             Claim::ReadsBook => "a read that gives 0 yields the book's block",
             Claim::AcknowledgedCounts => "a write that gives 0 counts in the book",
-            Claim::WriteBound => "a write makes at most 4 times as many stores as L has disks",
-            Claim::RefusedUnchanged => {
-                "a refusal other than 15 counts no stores and keeps the state"
+            Claim::WriteBound => {
+                let bound = write_bound(rules);
+                return format!(
+                    "a write makes at most {bound} times as many stores as L has disks"
+                );
             }
+            Claim::RefusedUnchanged => "a refusal other than 15 counts no stores, keeps the state",
             Claim::SavedAssembles => {
-                "a saved state, assembled with its own R, is the state after a cut"
+                "a saved state, assembled with its R, is the state after a cut"
             }
             Claim::NamedAsDefined => "the stages name the set that the definition says",
             Claim::FinderAgrees => "the finder, with one set a disk, gives the definition's answer",
             Claim::TestAgrees => "the test of soundness gives the definition's answer",
-        }
+        };
+        words.to_string()
     }
 
     /// Whether a claim about states holds in this one.

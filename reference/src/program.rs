@@ -74,6 +74,25 @@ pub struct Reply {
     pub byte: u8,
 }
 
+impl Reply {
+    /// The reply to a call that left this state.
+    pub fn new(answer: Answer, state: &State, byte: u8) -> Reply {
+        Reply {
+            result: answer.result,
+            stores: answer.stores,
+            current: state.current().0,
+            reach: state.reach.0,
+            byte,
+        }
+    }
+
+    /// The reply to a call of the list, with the first byte of a read that was done.
+    pub fn to_call(call: &Call, answer: Answer, state: &State, output: &[u8]) -> Reply {
+        let read = answer.result == DONE && matches!(call, Call::Read { .. });
+        Reply::new(answer, state, if read { output[0] } else { 0 })
+    }
+}
+
 impl std::fmt::Display for Reply {
     fn fmt(&self, f: &mut std::fmt::Formatter) -> std::fmt::Result {
         let (result, stores, byte) = (self.result, self.stores, self.byte);
@@ -113,7 +132,7 @@ impl Program {
     /// The answer to a line, given without its line feed.
     pub fn answer(&mut self, line: &[u8]) -> Reply {
         match parse(line) {
-            None => self.reply(Answer::refused(BAD_LINE), 0),
+            None => self.reply(Answer::refused(BAD_LINE)),
             Some(Command::Fresh { n, b }) => self.fresh(n, b),
             Some(Command::Call(call)) => self.call(&call),
         }
@@ -128,25 +147,18 @@ impl Program {
             }
             Err(number) => Answer::refused(number),
         };
-        self.reply(answer, 0)
+        self.reply(answer)
     }
 
     /// Any other call.
     fn call(&mut self, call: &Call) -> Reply {
         let mut output = [0; BLOCK];
         let answer = self.cabinet.take(call, &mut output);
-        let read = answer.result == DONE && matches!(call, Call::Read { .. });
-        self.reply(answer, if read { output[0] } else { 0 })
+        Reply::to_call(call, answer, &self.cabinet.state, &output)
     }
 
-    /// The reply with the state as it now is.
-    fn reply(&self, answer: Answer, byte: u8) -> Reply {
-        Reply {
-            result: answer.result,
-            stores: answer.stores,
-            current: self.cabinet.state.current().0,
-            reach: self.cabinet.state.reach.0,
-            byte,
-        }
+    /// The reply to a line that makes no call of the list.
+    fn reply(&self, answer: Answer) -> Reply {
+        Reply::new(answer, &self.cabinet.state, 0)
     }
 }

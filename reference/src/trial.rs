@@ -15,26 +15,32 @@ pub struct Trial {
     pub book: Book,
 }
 
+/// What came of a call.
+#[derive(Clone, Copy, Debug, PartialEq, Eq)]
+pub struct Outcome {
+    /// The answer of the cabinet that is tried.
+    pub answer: Answer,
+    /// The answer of the book's own cabinet.
+    pub book_answer: Answer,
+    /// The first claim that failed.
+    pub failed: Option<Claim>,
+}
+
 impl Trial {
-    /// The trial after a done fresh call, or fresh's refusal. A mistake is one of the paper that both follow: so a
-    /// claim that fails is not due to a mere difference between the two.
-    pub fn fresh(rules: Rules, n: u16, b: u16) -> Result<Trial, u8> {
+    /// The trial after a done fresh call, or fresh's refusal: the cabinet follows some rules, the book some others or
+    /// the same.
+    pub fn fresh(rules: Rules, book_rules: Rules, n: u16, b: u16) -> Result<Trial, u8> {
         Ok(Trial {
             cabinet: Cabinet::fresh(rules, n, b)?,
-            book: Book::open(rules, n, b)?,
+            book: Book::open(book_rules, n, b)?,
         })
     }
 
-    /// Makes a call, and checks these claims of it. Yields its answer, and the first claim that fails.
-    pub fn take(
-        &mut self,
-        call: &Call,
-        output: &mut [u8],
-        claims: &[Claim],
-    ) -> (Answer, Option<Claim>) {
+    /// Makes a call, and checks these claims of it.
+    pub fn take(&mut self, call: &Call, output: &mut [u8], claims: &[Claim]) -> Outcome {
         let before = self.cabinet.state;
         let answer = self.cabinet.take(call, output);
-        let counted = self.book.take(call);
+        let taken = self.book.take(call);
         let event = Event {
             before: &before,
             call,
@@ -42,10 +48,14 @@ impl Trial {
             output,
             after: &self.cabinet,
             book: &self.book,
-            counted,
+            counted: taken.counted,
         };
         let fails = |claim: &&Claim| !claim.holds_of(&event);
-        (answer, claims.iter().find(fails).copied())
+        Outcome {
+            answer,
+            book_answer: taken.answer,
+            failed: claims.iter().find(fails).copied(),
+        }
     }
 
     /// The first of these claims about states that fails in the state as it now is.

@@ -80,7 +80,7 @@ fn random_call(random: &mut Random, state: &State) -> Call {
 
 /// One history, checked after each call.
 fn history(random: &mut Random, n: u16, b: u16) {
-    let mut trial = Trial::fresh(Rules::PAPER, n, b).expect("n and b are in range");
+    let mut trial = Trial::fresh(Rules::PAPER, Rules::PAPER, n, b).expect("n and b are in range");
     let mut lines = vec![format!("f {n} {b}")];
     for _ in 0..CALLS {
         let call = random_call(random, &trial.cabinet.state);
@@ -91,10 +91,12 @@ fn history(random: &mut Random, n: u16, b: u16) {
             random.below(129)
         };
         let mut output = vec![170; length];
-        let (_, failed) = trial.take(&call, &mut output, &Claim::OF_CALLS);
-        let failed = failed.or_else(|| trial.failing_in_state(&Claim::OF_STATES));
+        let outcome = trial.take(&call, &mut output, &Claim::OF_CALLS);
+        let failed = outcome
+            .failed
+            .or_else(|| trial.failing_in_state(&Claim::OF_STATES));
         if let Some(claim) = failed {
-            panic!("{}: {}", claim.words(), lines.join(", "));
+            panic!("{}: {}", claim.words(Rules::PAPER), lines.join(", "));
         }
     }
 }
