@@ -2,6 +2,7 @@
 //! after every store, and every disk lost and returned. Breadth first, so the first history on which a claim fails is
 //! a shortest one.
 
+use crate::cabinet::Answer;
 use crate::call::Call;
 use crate::claims::Claim;
 use crate::mistakes::Rules;
@@ -148,8 +149,9 @@ impl Explorer<'_> {
             at = self.visited[at].parent;
         }
         let mut trial = self.fresh.clone();
-        let State { disks, blocks, .. } = trial.cabinet.state;
-        let mut history = vec![format!("f {disks} {blocks}")];
+        let state = &trial.cabinet.state;
+        let line = format!("f {} {}", state.disks, state.blocks);
+        let mut history = vec![line_of(&line, Reply::new(Answer::DONE, state, 0))];
         let mut failed = trial.failing_in_state(&[claim]);
         for (step, supply) in steps.into_iter().rev() {
             let call = step.call(supply, &trial);
@@ -157,11 +159,16 @@ impl Explorer<'_> {
             let outcome = trial.take(&call, &mut output, &[claim]);
             failed = outcome.failed.or_else(|| trial.failing_in_state(&[claim]));
             let reply = Reply::to_call(&call, outcome.answer, &trial.cabinet.state, &output);
-            history.push(format!("{:<9} -> {reply}", call.line()));
+            history.push(line_of(&call.line(), reply));
         }
         assert_eq!(failed, Some(claim), "the history fails when it is run anew");
         Failure { claim, history }
     }
+}
+
+/// A line of a history with its reply.
+fn line_of(line: &str, reply: Reply) -> String {
+    format!("{line:<9} -> {reply}")
 }
 
 impl Step {
