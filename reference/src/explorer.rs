@@ -14,7 +14,7 @@ use crate::trial::Trial;
 use std::collections::HashSet;
 
 /// The n and b of the cabinets that are explored, in this order.
-pub const SIZES: [(u16, u16); 6] = [(1, 1), (1, 2), (2, 1), (2, 2), (3, 1), (3, 2)];
+pub const SIZES: [(u16, u16); 6] = [(1, 1), (1, 2), (2, 1), (3, 1), (2, 2), (3, 2)];
 
 /// What an exploration found.
 pub struct Survey {
@@ -68,6 +68,7 @@ struct Explorer<'a> {
 /// may follow other rules than the cabinet.
 pub fn explore(rules: Rules, book_rules: Rules, size: (u16, u16), claims: &[Claim]) -> Survey {
     let (n, b) = size;
+    assert!(n <= 3 && b <= 2, "a larger trial cannot be packed");
     let mut explorer = Explorer {
         fresh: Trial::fresh(rules, book_rules, n, b).expect("n and b are in range"),
         claims,

@@ -10,10 +10,6 @@ use crate::sets::DiskSet;
 use crate::state::{Power, State, BLOCK};
 use crate::trial::Trial;
 
-/// The bits that the explorer's largest cabinet needs: R, the power condition, the labels and the blocks of two
-/// cabinets, and the book.
-const _: () = assert!(2 * (3 + 4 + 3 * 7 + 6) + 2 <= u128::BITS);
-
 /// Bits that are put in and taken out in the same order, the last put in first.
 struct Bits(u128);
 
@@ -30,7 +26,8 @@ impl Bits {
     }
 }
 
-/// The trial as a number: its cabinet, the book's own, and the book.
+/// The trial of a cabinet of at most 3 disks and 2 blocks as a number: its cabinet, the book's own, and the book. Each
+/// cabinet takes 34 bits: R, the power condition, the labels and the blocks.
 pub fn pack(trial: &Trial) -> u128 {
     let mut bits = Bits(0);
     let flip = trial.book.blocks[0];
