@@ -63,10 +63,10 @@ impl Book {
         }
         let rules = self.cabinet.rules;
         let list = lists::write(rules, before, block as u8, data);
-        if rules.err(Mistake::BookCountsEveryWrite) {
+        if rules.makes(Mistake::BookCountsEveryWrite) {
             return true;
         }
-        if rules.err(Mistake::BookCountsAtLastDisk) {
+        if rules.makes(Mistake::BookCountsAtLastDisk) {
             return answer.stores == list.len();
         }
         let lowest = before.live().lowest();

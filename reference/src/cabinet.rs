@@ -75,9 +75,10 @@ fn fresh_state(rules: Rules, n: u16, b: u16, area_length: usize) -> Result<State
         ..State::ZERO
     };
     refusal::first(&[(WRONG_LENGTH, area_length != state.area_length())])?;
-    let tentative = match rules.err(Mistake::FormatWithTentative) {
-        true => all,
-        false => DiskSet::EMPTY,
+    let tentative = if rules.makes(Mistake::FormatWithTentative) {
+        all
+    } else {
+        DiskSet::EMPTY
     };
     state.labels[..n as usize].fill(Label {
         committed: all,
@@ -91,11 +92,7 @@ impl Cabinet {
     /// The cabinet of a done fresh call, on an area of the right length.
     pub fn fresh(rules: Rules, n: u16, b: u16) -> Result<Cabinet, u8> {
         let in_range = (1..=8).contains(&n) && (1..=64).contains(&b);
-        let length = if in_range {
-            n as usize * b as usize * BLOCK
-        } else {
-            0
-        };
+        let length = if in_range { n as usize * b as usize * BLOCK } else { 0 };
         let mut area = vec![0; length];
         match fresh(rules, n, b, &mut area) {
             (Answer::DONE, state) => Ok(Cabinet { rules, state, area }),
@@ -107,11 +104,7 @@ impl Cabinet {
     pub fn take(&mut self, call: &Call, output: &mut [u8]) -> Answer {
         match call {
             Call::Read { block } => self.read(*block, output),
-            Call::Write {
-                block,
-                data,
-                supply,
-            } => self.write(*block, data, *supply),
+            Call::Write { block, data, supply } => self.write(*block, data, *supply),
             Call::Join { disk, supply } => self.join(*disk, *supply),
             Call::Quiet { supply } => self.quiet(*supply),
             Call::Restart { supply } => self.restart(*supply),
@@ -139,9 +132,10 @@ impl Cabinet {
             (NO_SUCH_BLOCK, block >= self.state.blocks.into()),
         ])?;
         let lowest = self.state.live().lowest().ok_or(NONE_LIVE)?;
-        let block = match self.rules.err(Mistake::ReadOfAnotherBlock) {
-            true => 0,
-            false => block as u8,
+        let block = if self.rules.makes(Mistake::ReadOfAnotherBlock) {
+            0
+        } else {
+            block as u8
         };
         Ok(self.state.block_range(lowest, block))
     }
@@ -252,15 +246,16 @@ impl Cabinet {
     fn carry_out(&mut self, list: &[Store], supply: u16, then: DiskSet) -> Answer {
         let is_cut = list.len() > supply as usize;
         let stores = list.len().min(supply as usize);
-        let made = match self.rules.err(Mistake::CutMakesWholeList) {
-            true => list,
-            false => &list[..stores],
+        let made = if self.rules.makes(Mistake::CutMakesWholeList) {
+            list
+        } else {
+            &list[..stores]
         };
         for &one in made {
             store::apply(self.rules, one, &mut self.state, &mut self.area);
         }
         self.state.power = match is_cut {
-            true if self.rules.err(Mistake::CutRunsOn) => Power::Running(self.state.reach),
+            true if self.rules.makes(Mistake::CutRunsOn) => Power::Running(self.state.reach),
             true => Power::Stopped,
             false => Power::Running(then),
         };

@@ -6,11 +6,7 @@ pub enum Call {
     /// Read block k.
     Read { block: u16 },
     /// Write block k.
-    Write {
-        block: u16,
-        data: Vec<u8>,
-        supply: u16,
-    },
+    Write { block: u16, data: Vec<u8>, supply: u16 },
     /// Join disk d.
     Join { disk: u16, supply: u16 },
     /// Quiet.
@@ -30,11 +26,7 @@ impl Call {
     pub fn line(&self) -> String {
         match self {
             Call::Read { block } => format!("g {block}"),
-            Call::Write {
-                block,
-                data,
-                supply,
-            } => format!("w {block} {} {supply}", data.first().unwrap_or(&0)),
+            Call::Write { block, data, supply } => format!("w {block} {} {supply}", data.first().unwrap_or(&0)),
             Call::Join { disk, supply } => format!("j {disk} {supply}"),
             Call::Quiet { supply } => format!("q {supply}"),
             Call::Restart { supply } => format!("s {supply}"),

@@ -30,32 +30,28 @@ pub const STATE_NUMBERS: usize = 29;
 /// What each byte of an output or of slots is before.
 const BEFORE: u8 = 170;
 
-/// The numbers that a case gives. `None` if the line is no case.
-pub fn run(case: &[u16]) -> Option<Vec<u16>> {
+/// The numbers that a case gives by these rules. `None` if the line is no case.
+pub fn run(rules: Rules, case: &[u16]) -> Option<Vec<u16>> {
     let (&kind, rest) = case.split_first()?;
     match kind {
         1 => Some(label_reading(&bytes(rest)?)),
         2 => label_writing(rest),
-        3 => save(rest),
-        4 => assemble(rest),
-        5 => fresh(rest),
-        6 => call(rest),
+        3 => save(rules, rest),
+        4 => assemble(rules, rest),
+        5 => fresh(rules, rest),
+        6 => call(rules, rest),
         _ => None,
     }
 }
 
 /// The area before a call.
 fn area_before(length: u16) -> Vec<u8> {
-    (0..usize::from(length))
-        .map(|i| ((i + i / 64) % 256) as u8)
-        .collect()
+    (0..usize::from(length)).map(|i| ((i + i / 64) % 256) as u8).collect()
 }
 
 /// The data of a write.
 fn data_before(length: u16) -> Vec<u8> {
-    (0..usize::from(length))
-        .map(|i| ((3 * i + 1) % 256) as u8)
-        .collect()
+    (0..usize::from(length)).map(|i| ((3 * i + 1) % 256) as u8).collect()
 }
 
 /// SUM of bytes: "s = 1, then for each byte x: s = (s × 31 + x) % 65521".
@@ -101,13 +97,7 @@ pub fn state_of(numbers: &[u16]) -> Option<State> {
 /// The STATE of a state.
 pub fn state_numbers(state: &State) -> Vec<u16> {
     let running = u8::from(!state.is_stopped());
-    let head = [
-        state.disks,
-        state.blocks,
-        state.reach.0,
-        running,
-        state.current().0,
-    ];
+    let head = [state.disks, state.blocks, state.reach.0, running, state.current().0];
     let fields = |l: &Label| [l.committed.0, l.tentative.0, l.dirty];
     let labels: Vec<u8> = state.labels.iter().flat_map(fields).collect();
     numbers(&head).chain(numbers(&labels)).collect()
@@ -160,48 +150,47 @@ fn label_writing(rest: &[u16]) -> Option<Vec<u16>> {
 }
 
 /// Kind 3.
-fn save(rest: &[u16]) -> Option<Vec<u16>> {
+fn save(rules: Rules, rest: &[u16]) -> Option<Vec<u16>> {
     let (state, &[length]) = rest.split_at_checked(STATE_NUMBERS)? else {
         return None;
     };
     let state = state_of(state)?;
     let mut slots = vec![BEFORE; length.into()];
-    let answer = slots::save(Rules::PAPER, &state, &mut slots);
+    let answer = slots::save(rules, &state, &mut slots);
     let mut given = answer_numbers(answer, &state);
     given.extend(numbers(&slots));
     Some(given)
 }
 
 /// Kind 4.
-fn assemble(rest: &[u16]) -> Option<Vec<u16>> {
+fn assemble(rules: Rules, rest: &[u16]) -> Option<Vec<u16>> {
     let &[n, b, reach, ref slots @ ..] = rest else {
         return None;
     };
     let reach = DiskSet(u8::try_from(reach).ok()?);
-    let (answer, state) = slots::assemble(Rules::PAPER, n, b, reach, &bytes(slots)?);
+    let (answer, state) = slots::assemble(rules, n, b, reach, &bytes(slots)?);
     Some(answer_numbers(answer, &state))
 }
 
 /// Kind 5. The area before is that of a call.
-fn fresh(rest: &[u16]) -> Option<Vec<u16>> {
+fn fresh(rules: Rules, rest: &[u16]) -> Option<Vec<u16>> {
     let &[n, b, length] = rest else {
         return None;
     };
     let mut area = area_before(length);
-    let (answer, state) = cabinet::fresh(Rules::PAPER, n, b, &mut area);
+    let (answer, state) = cabinet::fresh(rules, n, b, &mut area);
     let mut given = answer_numbers(answer, &state);
     given.push(sum(&area));
     Some(given)
 }
 
 /// Kind 6.
-fn call(rest: &[u16]) -> Option<Vec<u16>> {
-    let (state, &[area, kind, k, supply, data, output]) = rest.split_at_checked(STATE_NUMBERS)?
-    else {
+fn call(rules: Rules, rest: &[u16]) -> Option<Vec<u16>> {
+    let (state, &[area, kind, k, supply, data, output]) = rest.split_at_checked(STATE_NUMBERS)? else {
         return None;
     };
     let mut cabinet = Cabinet {
-        rules: Rules::PAPER,
+        rules,
         state: state_of(state)?,
         area: area_before(area),
     };

@@ -2,6 +2,7 @@
 
 use crate::case;
 use crate::label::Label;
+use crate::mistakes::Rules;
 use crate::program::Program;
 use crate::random::Random;
 use crate::session::Session;
@@ -30,11 +31,11 @@ pub fn input() -> Vec<u8> {
     table.cases.iter().flat_map(|case| line(case)).collect()
 }
 
-/// The output of the case table for its input.
-pub fn answers(input: &[u8]) -> Vec<u8> {
+/// The output of the case table for its input, by these rules.
+pub fn answers(rules: Rules, input: &[u8]) -> Vec<u8> {
     let answer = |text: &[u8]| {
         let case = numbers(text).expect("a line of the table is of numbers");
-        line(&case::run(&case).expect("a line of the table is a case"))
+        line(&case::run(rules, &case).expect("a line of the table is a case"))
     };
     let lines = input.split(|&byte| byte == b'\n');
     lines.filter(|l| !l.is_empty()).flat_map(answer).collect()
@@ -131,7 +132,7 @@ impl Table {
     fn call_at_supplies(&mut self, state: &State, call: u16) {
         let good = self.good(state, call);
         self.call(state, call, good);
-        let given = case::run(&self.cases[self.cases.len() - 1]).unwrap_or_default();
+        let given = case::run(Rules::PAPER, &self.cases[self.cases.len() - 1]).unwrap_or_default();
         let length = given[1];
         if given[0] != 0 || !matches!(call, WRITE | JOIN | QUIET | RESTART) {
             return;
@@ -183,12 +184,7 @@ impl Table {
     /// Kind 2: H11, H12, each refusal, pairs that fit at once, and spare bytes.
     fn label_writings(&mut self) {
         for length in 0..=16 {
-            for label in [
-                [1, 3, 3, 0, 1],
-                [0, 1, 0, 0, 0],
-                [2, 3, 7, 6, 128],
-                [7, 8, 128, 0, 0],
-            ] {
+            for label in [[1, 3, 3, 0, 1], [0, 1, 0, 0, 0], [2, 3, 7, 6, 128], [7, 8, 128, 0, 0]] {
                 self.add(2, label.into_iter().chain([length]));
             }
         }
@@ -213,9 +209,7 @@ impl Table {
             let n = 1 + round % 8;
             let state = self.sound_state(n as u8, 64);
             self.save(&state, 5 * n);
-            let near = self
-                .random
-                .pick(&[0, 1, 5 * n - 1, 5 * n + 1, 5 * n + 5, 60]);
+            let near = self.random.pick(&[0, 1, 5 * n - 1, 5 * n + 1, 5 * n + 5, 60]);
             self.save(&state, near);
         }
         for broken in self.broken_states() {
@@ -348,7 +342,7 @@ impl Table {
     fn calls_on_reached_states(&mut self) {
         for seed in 0..32 {
             let mut session = Session::new(1000 + seed);
-            let mut program = Program::default();
+            let mut program = Program::new(Rules::PAPER);
             for _ in 0..30 + seed {
                 program.answer(session.line().as_bytes());
             }
@@ -371,9 +365,7 @@ impl Table {
                 let pair = own.with((d ^ 1).min(n - 1));
                 let label = &mut state.labels[d as usize];
                 label.committed = self.random.pick(&[own, pair, pair]);
-                label.tentative = self
-                    .random
-                    .pick(&[DiskSet::EMPTY, DiskSet::EMPTY, own, pair]);
+                label.tentative = self.random.pick(&[DiskSet::EMPTY, DiskSet::EMPTY, own, pair]);
             }
             let good = self.good(&state, RESTART);
             self.call(&state, RESTART, good);
@@ -420,20 +412,10 @@ impl Table {
                 let good = self.good(&state, call);
                 let k = self.random.pick(&[good.k, good.k, 99]);
                 let right = good.area;
-                let area = self
-                    .random
-                    .pick(&[0, right - 1, right + 1, right - 64, right + 64]);
+                let area = self.random.pick(&[0, right - 1, right + 1, right - 64, right + 64]);
                 self.call(&state, call, Arguments { area, k, ..good });
                 let (data, output) = self.random.pick(&[(0, 0), (63, 63), (65, 65), (128, 128)]);
-                self.call(
-                    &state,
-                    call,
-                    Arguments {
-                        data,
-                        output,
-                        ..good
-                    },
-                );
+                self.call(&state, call, Arguments { data, output, ..good });
                 self.call(
                     &state,
                     call,
@@ -603,9 +585,10 @@ fn without_dirt(state: &mut State) -> &mut State {
 /// A set other than G that names G's lowest member.
 fn other_set(state: &State) -> DiskSet {
     let all = DiskSet::below(state.disks);
-    match state.current() == all {
-        true => DiskSet(all.0 & 1),
-        false => all,
+    if state.current() == all {
+        DiskSet(all.0 & 1)
+    } else {
+        all
     }
 }
 

@@ -62,11 +62,6 @@ pub struct Event<'a> {
 }
 
 impl Claim {
-    /// All claims.
-    pub fn all() -> Vec<Claim> {
-        [&Claim::OF_CALLS[..], &Claim::OF_STATES[..]].concat()
-    }
-
     /// The claims about each state that is reached.
     pub const OF_STATES: [Claim; 5] = [
         Claim::Sound,
@@ -88,12 +83,15 @@ impl Claim {
         Claim::RefusedUnchanged,
     ];
 
+    /// All claims.
+    pub fn all() -> Vec<Claim> {
+        [&Claim::OF_CALLS[..], &Claim::OF_STATES[..]].concat()
+    }
+
     /// The claim in words, as these rules have it.
     pub fn words(self, rules: Rules) -> String {
         let words = match self {
-            Claim::RestartedBlocks => {
-                "after a finished restart each block of each named disk equals the book's"
-            }
+            Claim::RestartedBlocks => "after a finished restart each block of each named disk equals the book's",
             Claim::NotSeveral => "no restart gives 14",
             Claim::RestartFinds => {
                 "a restart of a stopped cabinet with all disks in reach finds a set, \
@@ -105,14 +103,10 @@ impl Claim {
             Claim::AcknowledgedCounts => "a write that gives 0 counts in the book",
             Claim::WriteBound => {
                 let bound = write_bound(rules);
-                return format!(
-                    "a write makes at most {bound} times as many stores as L has disks"
-                );
+                return format!("a write makes at most {bound} times as many stores as L has disks");
             }
             Claim::RefusedUnchanged => "a refusal other than 15 counts no stores, keeps the state",
-            Claim::SavedAssembles => {
-                "a saved state, assembled with its R, is the state after a cut"
-            }
+            Claim::SavedAssembles => "a saved state, assembled with its R, is the state after a cut",
             Claim::NamedAsDefined => "the stages name the set that the definition says",
             Claim::FinderAgrees => "the finder, with one set a disk, gives the definition's answer",
             Claim::TestAgrees => "the test of soundness gives the definition's answer",
@@ -127,9 +121,7 @@ impl Claim {
             Claim::Sound => definitions::is_sound(state),
             Claim::SavedAssembles => saved_assembles(rules, state),
             Claim::NamedAsDefined => naming::named(rules, &state.labels, state.reach) == defined(),
-            Claim::FinderAgrees => {
-                naming::found_by_disks(rules, &state.labels, state.reach) == defined()
-            }
+            Claim::FinderAgrees => naming::found_by_disks(rules, &state.labels, state.reach) == defined(),
             Claim::TestAgrees => state.is_sound(rules) == definitions::is_sound(state),
             _ => true,
         }
@@ -139,9 +131,7 @@ impl Claim {
     pub fn holds_of(self, event: &Event) -> bool {
         let result = event.answer.result;
         match (self, event.call) {
-            (Claim::RestartedBlocks, Call::Restart { .. }) => {
-                result != DONE || named_disks_equal_book(event)
-            }
+            (Claim::RestartedBlocks, Call::Restart { .. }) => result != DONE || named_disks_equal_book(event),
             (Claim::NotSeveral, Call::Restart { .. }) => result != SEVERAL_CANDIDATES,
             (Claim::RestartFinds, Call::Restart { supply }) => restart_finds(event, *supply),
             (Claim::NoneUnsound, _) => result != UNSOUND,
@@ -163,9 +153,10 @@ impl Claim {
 
 /// "A write makes at most 4 times as many stores as L has disks."
 fn write_bound(rules: Rules) -> usize {
-    match rules.err(Mistake::WriteBoundThree) {
-        true => 3,
-        false => 4,
+    if rules.makes(Mistake::WriteBoundThree) {
+        3
+    } else {
+        4
     }
 }
 

@@ -1,6 +1,7 @@
 //! The corpus of the cabinet program: lines that show each rule, each cut and each kind of bad line. A heading such as
 //! `# H13` is itself a bad line, and gives 99.
 
+use crate::mistakes::Rules;
 use crate::program::Program;
 use crate::session::Session;
 
@@ -69,14 +70,7 @@ impl Corpus {
         self.heading("calls before the first good f");
         self.lines(&calls);
         self.heading("refused f before the first good one");
-        self.lines(&[
-            "f 0 1",
-            "f 9 0",
-            "f 1 0",
-            "f 1 65",
-            "f 65535 65535",
-            "f 0 0",
-        ]);
+        self.lines(&["f 0 1", "f 9 0", "f 1 0", "f 1 65", "f 65535 65535", "f 0 0"]);
         self.lines(&calls);
         self.heading("bad lines before the first good f");
         self.lines(&["", "f", "f 1", "f 1 1 1", "w 0 256 1", "z"]);
@@ -86,9 +80,7 @@ impl Corpus {
     /// The paper's session, H13 and H14.
     fn papers_examples(&mut self) {
         self.heading("the paper's session");
-        let session = [
-            "f 3 8", "x 2", "w 0 7 99", "c", "s 99", "r 2", "j 2 99", "g 0",
-        ];
+        let session = ["f 3 8", "x 2", "w 0 7 99", "c", "s 99", "r 2", "j 2 99", "g 0"];
         self.lines(&session);
         self.heading("H13");
         self.lines(&["f 1 1", "w 0 5 1", "g 0", "s 99", "g 0"]);
@@ -151,30 +143,17 @@ impl Corpus {
             self.heading(&format!("refusals while running, n = {n}"));
             self.line(format!("f {n} 9"));
             self.lines(&["w 8 200 999", "g 9", "g 65535", "w 9 1 0", "w 65535 1 9"]);
-            self.lines(&[
-                "j 0 0",
-                "j 9 0",
-                "j 65535 9",
-                "s 0",
-                "s 99",
-                "x 8",
-                "r 256",
-                "x 65535",
-            ]);
+            self.lines(&["j 0 0", "j 9 0", "j 65535 9", "s 0", "s 99", "x 8", "r 256", "x 65535"]);
             self.lines(&["x 0", "j 0 9", "j 0 0", "g 8", "q 0", "r 0", "g 8"]);
             self.heading("no member in reach");
             for disk in 0..n {
                 self.line(format!("x {disk}"));
             }
-            self.lines(&[
-                "g 0", "g 9", "w 0 1 9", "w 9 1 9", "q 0", "q 99", "j 0 9", "j 8 9",
-            ]);
+            self.lines(&["g 0", "g 9", "w 0 1 9", "w 9 1 9", "q 0", "q 99", "j 0 9", "j 8 9"]);
             self.line(format!("r {}", n - 1));
             self.lines(&["g 8", "q 0", "q 1", "q 0"]);
             self.heading("refusals while stopped");
-            self.lines(&[
-                "c", "c", "g 0", "g 99", "w 0 1 9", "w 99 1 9", "j 0 9", "j 99 9", "q 9",
-            ]);
+            self.lines(&["c", "c", "g 0", "g 99", "w 0 1 9", "w 99 1 9", "j 0 9", "j 99 9", "q 9"]);
             self.lines(&["x 8", "r 8"]);
             for disk in 0..n {
                 self.line(format!("x {disk}"));
@@ -182,15 +161,9 @@ impl Corpus {
             self.lines(&["s 0", "s 99", "r 0", "s 0", "s 9999", "s 9999", "g 8"]);
         }
         self.heading("joins of a member out of reach, and of no member with none live");
-        self.lines(&[
-            "f 3 2", "x 2", "w 0 9 99", "j 2 99", "r 2", "j 2 3", "s 99", "j 2 99",
-        ]);
-        self.lines(&[
-            "x 0", "j 0 99", "r 0", "j 0 99", "x 0", "w 1 8 99", "r 0", "x 1", "x 2",
-        ]);
-        self.lines(&[
-            "j 0 0", "j 0 99", "g 0", "r 2", "j 0 99", "g 0", "g 1", "j 0 99",
-        ]);
+        self.lines(&["f 3 2", "x 2", "w 0 9 99", "j 2 99", "r 2", "j 2 3", "s 99", "j 2 99"]);
+        self.lines(&["x 0", "j 0 99", "r 0", "j 0 99", "x 0", "w 1 8 99", "r 0", "x 1", "x 2"]);
+        self.lines(&["j 0 0", "j 0 99", "g 0", "r 2", "j 0 99", "g 0", "g 1", "j 0 99"]);
     }
 
     /// Disks that come and go between calls.
@@ -210,9 +183,7 @@ impl Corpus {
                 self.line(format!("j {disk} 99"));
             }
             self.heading("a member that comes back is current again");
-            self.lines(&[
-                "x 0", "g 1", "q 99", "r 0", "g 1", "w 0 3 99", "q 99", "q 0",
-            ]);
+            self.lines(&["x 0", "g 1", "q 99", "r 0", "g 1", "w 0 3 99", "q 99", "q 0"]);
             self.heading("cohorts that shrink to one disk, and restarts of the others");
             for disk in 0..n - 1 {
                 self.line(format!("x {disk}"));
@@ -231,9 +202,7 @@ impl Corpus {
 
     /// `f` with n and b in and out of range, and calls that show that a refused one keeps state and area.
     fn fresh_in_and_out_of_range(&mut self) {
-        let counts: [u16; 15] = [
-            0, 1, 2, 7, 8, 9, 10, 63, 64, 65, 255, 256, 257, 32768, 65535,
-        ];
+        let counts: [u16; 15] = [0, 1, 2, 7, 8, 9, 10, 63, 64, 65, 255, 256, 257, 32768, 65535];
         self.heading("f with every pair of counts");
         self.lines(&["f 2 3", "w 2 77 99", "x 0"]);
         for n in counts {
@@ -244,9 +213,7 @@ impl Corpus {
         }
         self.heading("a refused f keeps state and area");
         self.lines(&["f 3 2", "w 1 44 99", "x 1", "w 0 45 99"]);
-        for refused in [
-            "f 0 1", "f 9 1", "f 1 0", "f 1 65", "f 0 0", "f 9 65", "f 257 1",
-        ] {
+        for refused in ["f 0 1", "f 9 1", "f 1 0", "f 1 65", "f 0 0", "f 9 65", "f 257 1"] {
             self.lines(&[refused, "g 0", "g 1"]);
         }
         self.lines(&[
@@ -254,14 +221,7 @@ impl Corpus {
         ]);
         self.lines(&["x 0", "x 2", "g 0", "g 1"]);
         self.heading("the largest cabinet");
-        self.lines(&[
-            "f 8 64",
-            "w 63 255 65535",
-            "w 0 1 65535",
-            "x 0",
-            "w 31 9 500",
-            "r 0",
-        ]);
+        self.lines(&["f 8 64", "w 63 255 65535", "w 0 1 65535", "x 0", "w 31 9 500", "r 0"]);
         self.lines(&[
             "j 0 65535",
             "x 1",
@@ -294,29 +254,13 @@ impl Corpus {
             }
         }
         for letter in "fxrcwjqsg".chars() {
-            for tail in [
-                "",
-                " ",
-                " 9 9 9 9",
-                " 1",
-                " 9 9",
-                " 9 9 9",
-                " a",
-                " 9 ",
-                " 1 1 1 1 1 1",
-            ] {
+            for tail in ["", " ", " 9 9 9 9", " 1", " 9 9", " 9 9 9", " a", " 9 ", " 1 1 1 1 1 1"] {
                 self.line(format!("{letter}{tail}"));
             }
         }
         self.lines(&["g 7", "r 1", "g 7"]);
         self.heading("leading zeros are good, up to five digits");
-        self.lines(&[
-            "f 00002 00009",
-            "w 00007 00007 00099",
-            "g 00007",
-            "x 00001",
-            "r 1",
-        ]);
+        self.lines(&["f 00002 00009", "w 00007 00007 00099", "g 00007", "x 00001", "r 1"]);
         self.lines(&[
             "w 0 00255 65535",
             "g 00000",
@@ -326,26 +270,14 @@ impl Corpus {
             "c",
             "s 00099",
         ]);
-        self.lines(&[
-            "w 00008 000 00",
-            "s 65535",
-            "w 00008 9 4",
-            "g 8",
-            "g 00008",
-            "g 008",
-        ]);
+        self.lines(&["w 00008 000 00", "s 65535", "w 00008 9 4", "g 8", "g 00008", "g 008"]);
     }
 
     /// A line of over 32 bytes is one bad line, however long. No line of 32 bytes is good either: the longest good
     /// one, `w` with three numbers of five digits, has 19.
     fn long_lines(&mut self) {
         self.heading("long lines");
-        self.lines(&[
-            "f 2 9",
-            "w 65535 00255 65535",
-            "w 00008 00255 65535",
-            "g 00008",
-        ]);
+        self.lines(&["f 2 9", "w 65535 00255 65535", "w 00008 00255 65535", "g 00008"]);
         for length in [18, 19, 20, 31, 32, 33, 34, 63, 64, 65, 100, 5000, 20000] {
             self.line(format!("g {:0>1$}", 8, length - 2));
             self.line(format!("g 8{:1$}", "", length - 3));
@@ -460,7 +392,7 @@ const BAD_LINES: [&[u8]; 74] = [
 impl Scene {
     /// The length of the call's list.
     fn length(&self) -> u16 {
-        let mut program = Program::default();
+        let mut program = Program::new(Rules::PAPER);
         for line in &self.setup {
             program.answer(line.as_bytes());
         }
@@ -494,6 +426,9 @@ fn scenes(n: u16) -> Vec<Scene> {
     if n >= 2 {
         scenes.extend(smaller_cohort_scenes(n, n / 2));
     }
+    if (2..=4).contains(&n) {
+        scenes.extend(smaller_cohort_scenes(n, 0));
+    }
     if n >= 3 {
         scenes.extend(two_away_scenes(n));
     }
@@ -506,13 +441,7 @@ fn one_cohort_scenes(n: u16) -> Vec<Scene> {
     let two_regions = [write(0, 1), write(8, 2)];
     let torn = [write(0, 1), write(8, 2), "w 8 3 1".into()];
     vec![
-        Scene::new(
-            "a write",
-            (n, 2),
-            &[1],
-            &[write(1, 1), ample("q")],
-            "w 1 2".into(),
-        ),
+        Scene::new("a write", (n, 2), &[1], &[write(1, 1), ample("q")], "w 1 2".into()),
         Scene::new(
             "a write to a dirty region",
             (n, 9),
@@ -522,13 +451,7 @@ fn one_cohort_scenes(n: u16) -> Vec<Scene> {
         ),
         Scene::new("a quiet", (n, 9), &[0], &two_regions, "q".into()),
         Scene::new("a restart", (n, 9), &[8], &torn, "s".into()),
-        Scene::new(
-            "a restart of a clean cabinet",
-            (n, 1),
-            &[0],
-            &["c".into()],
-            "s".into(),
-        ),
+        Scene::new("a restart of a clean cabinet", (n, 1), &[0], &["c".into()], "s".into()),
     ]
 }
 
@@ -537,11 +460,7 @@ fn smaller_cohort_scenes(n: u16, away: u16) -> Vec<Scene> {
     let (lose, give_back) = (format!("x {away}"), format!("r {away}"));
     let smaller = [write(1, 1), lose.clone(), write(1, 2), give_back];
     let torn_move = [write(1, 1), lose.clone(), format!("w 1 2 {}", n / 2)];
-    let half_committed = [
-        write(1, 1),
-        lose.clone(),
-        format!("w 1 2 {}", n - 1 + n / 2),
-    ];
+    let half_committed = [write(1, 1), lose.clone(), format!("w 1 2 {}", n - 1 + n / 2)];
     let torn_join = [&smaller[..], &[format!("j {away} {}", 2 + n + n / 2)]].concat();
     vec![
         Scene::new(
@@ -559,13 +478,7 @@ fn smaller_cohort_scenes(n: u16, away: u16) -> Vec<Scene> {
             "q".into(),
         ),
         Scene::new("a join", (n, 3), &[1], &smaller, format!("j {away}")),
-        Scene::new(
-            "a restart after a cut proposal",
-            (n, 2),
-            &[1],
-            &torn_move,
-            "s".into(),
-        ),
+        Scene::new("a restart after a cut proposal", (n, 2), &[1], &torn_move, "s".into()),
         Scene::new(
             "a restart after a cut commit",
             (n, 2),
@@ -573,13 +486,7 @@ fn smaller_cohort_scenes(n: u16, away: u16) -> Vec<Scene> {
             &half_committed,
             "s".into(),
         ),
-        Scene::new(
-            "a restart after a cut join",
-            (n, 3),
-            &[1],
-            &torn_join,
-            "s".into(),
-        ),
+        Scene::new("a restart after a cut join", (n, 3), &[1], &torn_join, "s".into()),
     ]
 }
 
@@ -588,11 +495,5 @@ fn two_away_scenes(n: u16) -> Vec<Scene> {
     let first = [write(1, 1), "x 0".into(), write(1, 2)];
     let then = [format!("x {}", n - 1), "r 0".into()];
     let setup = [&first[..], &then].concat();
-    vec![Scene::new(
-        "a join with a move",
-        (n, 2),
-        &[1],
-        &setup,
-        "j 0".into(),
-    )]
+    vec![Scene::new("a join with a move", (n, 2), &[1], &setup, "j 0".into())]
 }

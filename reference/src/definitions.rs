@@ -59,10 +59,7 @@ pub fn named(labels: &[Label; 8], reach: DiskSet) -> Found {
 
 /// The first stage in which X is a candidate.
 fn first_stage(labels: &[Label; 8], x: u8) -> Option<u8> {
-    let members: Vec<&Label> = (0..8)
-        .filter(|d| x >> d & 1 == 1)
-        .map(|d| &labels[d])
-        .collect();
+    let members: Vec<&Label> = (0..8).filter(|d| x >> d & 1 == 1).map(|d| &labels[d]).collect();
     let tentative = members.iter().filter(|l| l.tentative.0 == x).count();
     let committed = members.iter().filter(|l| l.committed.0 == x).count();
     let either = members
@@ -70,10 +67,6 @@ fn first_stage(labels: &[Label; 8], x: u8) -> Option<u8> {
         .filter(|l| l.tentative.0 == x || l.committed.0 == x)
         .count();
     let all = members.len();
-    match () {
-        () if tentative == all => Some(1),
-        () if either == all && tentative > 0 => Some(2),
-        () if committed == all => Some(3),
-        () => None,
-    }
+    let stages = [tentative == all, either == all && tentative > 0, committed == all];
+    (1..).zip(stages).find(|(_, fits)| *fits).map(|(stage, _)| stage)
 }

@@ -1,10 +1,10 @@
 //! Splits input into lines and answers each. The input may come in pieces of any size.
 
+use crate::mistakes::Rules;
 use crate::program::{Program, LONGEST_LINE};
 use std::io::{self, Read, Write};
 
 /// The program, and the line that has begun.
-#[derive(Default)]
 pub struct Driver {
     program: Program,
     /// The bytes of a line that has no line feed yet: at most one more than a line may have, which suffices to know
@@ -13,6 +13,14 @@ pub struct Driver {
 }
 
 impl Driver {
+    /// A driver of a program that follows these rules.
+    pub fn new(rules: Rules) -> Driver {
+        Driver {
+            program: Program::new(rules),
+            begun: Vec::new(),
+        }
+    }
+
     /// Takes a piece of the input, and answers each line that ends in it.
     pub fn feed(&mut self, piece: &[u8], output: &mut impl Write) -> io::Result<()> {
         let mut rest = piece;
@@ -32,9 +40,10 @@ impl Driver {
 
     /// "The last line may lack its line feed, and an end of input right after a line feed starts no line."
     pub fn finish(mut self, output: &mut impl Write) -> io::Result<()> {
-        match self.begun.is_empty() {
-            true => Ok(()),
-            false => self.answer_begun(output),
+        if self.begun.is_empty() {
+            Ok(())
+        } else {
+            self.answer_begun(output)
         }
     }
 
@@ -52,9 +61,9 @@ impl Driver {
     }
 }
 
-/// Answers all lines of the input, which is read by blocks.
+/// Answers all lines of the input by the paper's rules. The input is read by blocks.
 pub fn run(mut input: impl Read, mut output: impl Write) -> io::Result<()> {
-    let mut driver = Driver::default();
+    let mut driver = Driver::new(Rules::PAPER);
     let mut block = vec![0; 1 << 16];
     loop {
         match input.read(&mut block) {
@@ -68,9 +77,12 @@ pub fn run(mut input: impl Read, mut output: impl Write) -> io::Result<()> {
     output.flush()
 }
 
-/// The whole output for a whole input.
-pub fn answers(input: &[u8]) -> Vec<u8> {
-    let mut output = Vec::new();
-    run(input, &mut output).expect("a vector takes every write");
+/// The whole output for a whole input, by these rules.
+pub fn answers(rules: Rules, input: &[u8]) -> Vec<u8> {
+    let (mut driver, mut output) = (Driver::new(rules), Vec::new());
+    let fed = driver
+        .feed(input, &mut output)
+        .and_then(|()| driver.finish(&mut output));
+    fed.expect("a vector takes every write");
     output
 }

@@ -132,11 +132,7 @@ impl Explorer<'_> {
         if !self.seen.insert(packed) {
             return None;
         }
-        self.visited.push(Visited {
-            packed,
-            parent,
-            made,
-        });
+        self.visited.push(Visited { packed, parent, made });
         trial.failing_in_state(self.claims)
     }
 
@@ -176,9 +172,7 @@ impl Step {
     /// The call of this step.
     fn call(self, supply: u16, trial: &Trial) -> Call {
         match self {
-            Step::Read { block } => Call::Read {
-                block: block.into(),
-            },
+            Step::Read { block } => Call::Read { block: block.into() },
             Step::Write { block, differs } => Call::Write {
                 block: block.into(),
                 data: written(trial, block, differs),
@@ -204,8 +198,8 @@ fn written(trial: &Trial, block: u8, differs: u8) -> Vec<u8> {
     vec![book.unwrap_or(&0) ^ differs; BLOCK]
 }
 
-/// The steps on n disks of b blocks: every block and disk that exists, and one that does
-/// not. The plainest come first, so that of several shortest histories a plain one is found.
+/// The steps on n disks of b blocks: every block and disk that exists, and one that does not. The plainest come first,
+/// so that of several shortest histories a plain one is found.
 fn steps(n: u8, b: u8) -> Vec<Step> {
     let mut steps = vec![Step::Cut];
     for disk in 0..=n {

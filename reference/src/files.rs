@@ -1,5 +1,6 @@
 //! The committed files that the reference makes, and which tests compare.
 
+use crate::mistakes::Rules;
 use crate::{cases, corpus, driver};
 use std::path::{Path, PathBuf};
 
@@ -14,9 +15,9 @@ pub struct Made {
 /// The four files: input and output of the cabinet program's corpus and of the case table.
 pub fn all() -> Vec<Made> {
     let console = corpus::input();
-    let console_answers = driver::answers(&console);
+    let console_answers = driver::answers(Rules::PAPER, &console);
     let cases = cases::input();
-    let case_answers = cases::answers(&cases);
+    let case_answers = cases::answers(Rules::PAPER, &cases);
     vec![
         made("crates/console/stdin", console),
         made("crates/console/stdout", console_answers),

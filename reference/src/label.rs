@@ -30,8 +30,7 @@ impl Label {
 
     /// Whether each of C and T is 0, or names only disks below n and its own disk too.
     fn names_rightly(&self, disk: u8, disks: u8) -> bool {
-        let right =
-            |set: DiskSet| set.is_empty() || set.inside(DiskSet::below(disks)) && set.has(disk);
+        let right = |set: DiskSet| set.is_empty() || set.inside(DiskSet::below(disks)) && set.has(disk);
         right(self.committed) && right(self.tentative)
     }
 
@@ -97,10 +96,7 @@ fn label_of(map: u8, present: &[u8]) -> Label {
 /// Writes the label of disk `disk` of `disks` at the start of the output, and yields its length. "Bytes beyond the
 /// label stay."
 pub fn write(disk: u16, disks: u16, label: &Label, output: &mut [u8]) -> Result<usize, u8> {
-    refusal::first(&[
-        (DISK_COUNT, !(1..=8).contains(&disks)),
-        (NO_SUCH_DISK, disk >= disks),
-    ])?;
+    refusal::first(&[(DISK_COUNT, !(1..=8).contains(&disks)), (NO_SUCH_DISK, disk >= disks)])?;
     let (disk, disks) = (disk as u8, disks as u8);
     let bytes = bytes_of(disk, disks, label);
     refusal::first(&[

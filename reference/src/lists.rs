@@ -8,14 +8,11 @@ use crate::store::Store;
 /// "Moving to set S: for each disk of S, ascending, store T = S; then for each disk of S, ascending, store C = S and
 /// T = 0."
 fn move_to<'a>(rules: Rules, set: DiskSet) -> Vec<Store<'a>> {
-    if rules.err(Mistake::EarlyCommit) {
+    if rules.makes(Mistake::EarlyCommit) {
         let both = |disk| [Store::Propose { disk, set }, Store::Commit { disk, set }];
         return set.members().flat_map(both).collect();
     }
-    let mut list: Vec<Store> = set
-        .members()
-        .map(|disk| Store::Propose { disk, set })
-        .collect();
+    let mut list: Vec<Store> = set.members().map(|disk| Store::Propose { disk, set }).collect();
     list.extend(commits(set));
     list
 }
@@ -27,9 +24,10 @@ fn commits<'a>(set: DiskSet) -> impl Iterator<Item = Store<'a>> {
 
 /// "If L differs from G, move to L."
 fn move_to_live<'a>(rules: Rules, state: &State) -> Vec<Store<'a>> {
-    match state.live() == state.current() {
-        true => Vec::new(),
-        false => move_to(rules, state.live()),
+    if state.live() == state.current() {
+        Vec::new()
+    } else {
+        move_to(rules, state.live())
     }
 }
 
@@ -38,13 +36,15 @@ fn move_to_live<'a>(rules: Rules, state: &State) -> Vec<Store<'a>> {
 pub fn write<'a>(rules: Rules, state: &State, block: u8, data: &'a [u8]) -> Vec<Store<'a>> {
     let mut before = move_to_live(rules, state);
     before.extend(marks(state, block / REGION));
-    let blocks: Vec<Store> = match rules.err(Mistake::WriteStoresNothing) {
-        true => Vec::new(),
-        false => block_stores(state, block, data).collect(),
+    let blocks: Vec<Store> = if rules.makes(Mistake::WriteStoresNothing) {
+        Vec::new()
+    } else {
+        block_stores(state, block, data).collect()
     };
-    match rules.err(Mistake::BlocksBeforeBits) {
-        true => [blocks, before].concat(),
-        false => [before, blocks].concat(),
+    if rules.makes(Mistake::BlocksBeforeBits) {
+        [blocks, before].concat()
+    } else {
+        [before, blocks].concat()
     }
 }
 
@@ -56,11 +56,7 @@ fn marks<'a>(state: &State, region: u8) -> impl Iterator<Item = Store<'a>> + '_ 
 }
 
 /// A write's block, on each disk of L.
-fn block_stores<'a>(
-    state: &State,
-    block: u8,
-    data: &'a [u8],
-) -> impl Iterator<Item = Store<'a>> + 'a {
+fn block_stores<'a>(state: &State, block: u8, data: &'a [u8]) -> impl Iterator<Item = Store<'a>> + 'a {
     let store = move |disk| Store::Block { disk, block, data };
     state.live().members().map(store)
 }
@@ -70,18 +66,13 @@ fn block_stores<'a>(
 pub fn join<'a>(rules: Rules, state: &State, disk: u8) -> Vec<Store<'a>> {
     let first = move_to_live(rules, state);
     let from = state.live().lowest();
-    let copy = |block| {
-        from.map(|from| Store::Copy {
-            from,
-            to: disk,
-            block,
-        })
-    };
+    let copy = |block| from.map(|from| Store::Copy { from, to: disk, block });
     let copies: Vec<Store> = (0..state.blocks).filter_map(copy).collect();
     let joining = move_to(rules, state.live().with(disk));
-    match rules.err(Mistake::JoinBeforeCopies) {
-        true => [first, joining, copies].concat(),
-        false => [first, copies, joining].concat(),
+    if rules.makes(Mistake::JoinBeforeCopies) {
+        [first, joining, copies].concat()
+    } else {
+        [first, copies, joining].concat()
     }
 }
 
@@ -99,10 +90,7 @@ pub fn quiet<'a>(state: &State) -> Vec<Store<'a>> {
 /// "For each region, ascending, that is dirty on any disk of S", mend it. "At the end store C = S and T = 0 on every
 /// member, ascending."
 pub fn restart<'a>(rules: Rules, state: &State, set: DiskSet) -> Vec<Store<'a>> {
-    let dirty = |region| {
-        set.members()
-            .any(|d| state.labels[d as usize].is_dirty(region))
-    };
+    let dirty = |region| set.members().any(|d| state.labels[d as usize].is_dirty(region));
     let mut list = Vec::new();
     for region in (0..state.regions()).filter(|&r| dirty(r)) {
         list.extend(mend(rules, state, set, region));
@@ -113,32 +101,27 @@ pub fn restart<'a>(rules: Rules, state: &State, set: DiskSet) -> Vec<Store<'a>> 
 
 /// One region of a restart: its copies; "then clear the bit on every member, ascending, standing or not".
 fn mend<'a>(rules: Rules, state: &State, set: DiskSet, region: u8) -> Vec<Store<'a>> {
-    let clears: Vec<Store> = set
-        .members()
-        .map(|disk| Store::ClearDirty { disk, region })
-        .collect();
-    let copies = match rules.err(Mistake::RestartCopiesNothing) {
-        true => Vec::new(),
-        false => region_copies(rules, state, set, region),
+    let clears: Vec<Store> = set.members().map(|disk| Store::ClearDirty { disk, region }).collect();
+    let copies = if rules.makes(Mistake::RestartCopiesNothing) {
+        Vec::new()
+    } else {
+        region_copies(rules, state, set, region)
     };
-    match rules.err(Mistake::ClearsBeforeCopies) {
-        true => [clears, copies].concat(),
-        false => [copies, clears].concat(),
+    if rules.makes(Mistake::ClearsBeforeCopies) {
+        [clears, copies].concat()
+    } else {
+        [copies, clears].concat()
     }
 }
 
 /// "For each block ascending, copy it from the lowest member to each other member, ascending."
 fn region_copies<'a>(rules: Rules, state: &State, set: DiskSet, region: u8) -> Vec<Store<'a>> {
-    let from_second = rules.err(Mistake::CopiesFromOtherMember);
+    let from_second = rules.makes(Mistake::CopiesFromOtherMember);
     let source = set.members().nth(usize::from(from_second));
     let Some(from) = source else {
         return Vec::new();
     };
     let others = set.members().skip(1);
-    let copies = |block| {
-        others
-            .clone()
-            .map(move |to| Store::Copy { from, to, block })
-    };
+    let copies = |block| others.clone().map(move |to| Store::Copy { from, to, block });
     state.region_blocks(region).flat_map(copies).collect()
 }

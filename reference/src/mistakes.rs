@@ -75,10 +75,7 @@ impl Mistake {
         (Mistake::RestartNamesAll, "restart_names_all"),
         (Mistake::RestartRefusesAlways, "restart_refuses_always"),
         (Mistake::SoundIgnoresTentative, "sound_ignores_tentative"),
-        (
-            Mistake::StageTwoWithoutProposal,
-            "stage_two_without_proposal",
-        ),
+        (Mistake::StageTwoWithoutProposal, "stage_two_without_proposal"),
         (Mistake::StaleTentative, "stale_tentative"),
         (Mistake::WriteBoundThree, "write_bound_three"),
         (Mistake::WriteStoresNothing, "write_stores_nothing"),
@@ -99,7 +96,7 @@ impl Rules {
     }
 
     /// Whether this mistake is in force.
-    pub fn err(self, mistake: Mistake) -> bool {
+    pub fn makes(self, mistake: Mistake) -> bool {
         self.0 == Some(mistake)
     }
 }

@@ -32,10 +32,10 @@ const STAGES: [Stage; 3] = [Stage::First, Stage::Second, Stage::Third];
 /// The set that a restart names: a search over all sets X inside R in each stage. "The first stage with a candidate
 /// decides."
 pub fn named(rules: Rules, labels: &[Label; 8], reach: DiskSet) -> Found {
-    if rules.err(Mistake::RestartNamesAll) {
+    if rules.makes(Mistake::RestartNamesAll) {
         return Found::One(reach);
     }
-    if rules.err(Mistake::RestartRefusesAlways) {
+    if rules.makes(Mistake::RestartRefusesAlways) {
         return Found::None;
     }
     decide(rules, |stage| {
@@ -60,7 +60,7 @@ pub fn found_by_disks(rules: Rules, labels: &[Label; 8], reach: DiskSet) -> Foun
 /// The one set of a disk that is tried in a stage.
 fn tried(rules: Rules, stage: Stage, label: &Label) -> DiskSet {
     match stage {
-        Stage::Third if !rules.err(Mistake::FinderMissesCommitted) => label.committed,
+        Stage::Third if !rules.makes(Mistake::FinderMissesCommitted) => label.committed,
         _ => label.tentative,
     }
 }
@@ -68,13 +68,13 @@ fn tried(rules: Rules, stage: Stage, label: &Label) -> DiskSet {
 /// "The first stage with a candidate decides: one candidate is the set, more than one is refused."
 fn decide(rules: Rules, candidates: impl Fn(Stage) -> Vec<DiskSet>) -> Found {
     for stage in STAGES {
-        if stage == Stage::Second && rules.err(Mistake::FallbackToCommitted) {
+        if stage == Stage::Second && rules.makes(Mistake::FallbackToCommitted) {
             continue;
         }
         match candidates(stage).as_slice() {
             [] => continue,
             [set] => return Found::One(*set),
-            several if rules.err(Mistake::LargerSet) => return largest(several),
+            several if rules.makes(Mistake::LargerSet) => return largest(several),
             _ => return Found::Several,
         }
     }
@@ -96,10 +96,11 @@ fn is_candidate(rules: Rules, stage: Stage, labels: &[Label; 8], x: DiskSet) -> 
         Stage::Second => proposes(d) || has_committed(d),
         Stage::Third => has_committed(d),
     };
-    let backed = match rules.err(Mistake::LargerSet) {
-        true => x.members().any(backs),
-        false => !x.is_empty() && x.members().all(backs),
+    let backed = if rules.makes(Mistake::LargerSet) {
+        x.members().any(backs)
+    } else {
+        !x.is_empty() && x.members().all(backs)
     };
-    let asks_proposal = stage == Stage::Second && !rules.err(Mistake::StageTwoWithoutProposal);
+    let asks_proposal = stage == Stage::Second && !rules.makes(Mistake::StageTwoWithoutProposal);
     backed && (!asks_proposal || x.members().any(proposes))
 }

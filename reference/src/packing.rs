@@ -10,7 +10,7 @@ use crate::sets::DiskSet;
 use crate::state::{Power, State, BLOCK};
 use crate::trial::Trial;
 
-/// Bits that are put in and taken out in the same order, the last put in first.
+/// Bits that are put in one after another and taken out again in the opposite order.
 struct Bits(u128);
 
 impl Bits {
@@ -83,9 +83,10 @@ fn take_state(bits: &mut Bits, state: &mut State) {
     }
     let stopped = bits.take(1) == 1;
     let current = DiskSet(bits.take(n));
-    state.power = match stopped {
-        true => Power::Stopped,
-        false => Power::Running(current),
+    state.power = if stopped {
+        Power::Stopped
+    } else {
+        Power::Running(current)
     };
     state.reach = DiskSet(bits.take(n));
 }

@@ -52,9 +52,10 @@ pub fn parse(line: &[u8]) -> Option<Command> {
 fn number(word: &[u8]) -> Option<u16> {
     let is_number = (1..=5).contains(&word.len()) && word.iter().all(u8::is_ascii_digit);
     let value = |sum: u32, digit: &u8| sum * 10 + u32::from(digit - b'0');
-    match is_number {
-        true => u16::try_from(word.iter().fold(0, value)).ok(),
-        false => None,
+    if is_number {
+        u16::try_from(word.iter().fold(0, value)).ok()
+    } else {
+        None
     }
 }
 
@@ -96,11 +97,7 @@ impl Reply {
 impl std::fmt::Display for Reply {
     fn fmt(&self, f: &mut std::fmt::Formatter) -> std::fmt::Result {
         let (result, stores, byte) = (self.result, self.stores, self.byte);
-        write!(
-            f,
-            "{result} {stores} {} {} {byte}",
-            self.current, self.reach
-        )
+        write!(f, "{result} {stores} {} {} {byte}", self.current, self.reach)
     }
 }
 
@@ -110,20 +107,14 @@ pub struct Program {
     cabinet: Cabinet,
 }
 
-impl Default for Program {
-    /// "Before the first good `f` the state is all zero and calls give 1."
-    fn default() -> Program {
-        Program {
-            cabinet: Cabinet {
-                rules: Rules::PAPER,
-                state: State::ZERO,
-                area: Vec::new(),
-            },
-        }
-    }
-}
-
 impl Program {
+    /// "Before the first good `f` the state is all zero and calls give 1."
+    pub fn new(rules: Rules) -> Program {
+        let (state, area) = (State::ZERO, Vec::new());
+        let cabinet = Cabinet { rules, state, area };
+        Program { cabinet }
+    }
+
     /// The state that it keeps.
     pub fn state(&self) -> &State {
         &self.cabinet.state
@@ -140,7 +131,7 @@ impl Program {
 
     /// A refused fresh: "the program then keeps the one it had".
     fn fresh(&mut self, n: u16, b: u16) -> Reply {
-        let answer = match Cabinet::fresh(Rules::PAPER, n, b) {
+        let answer = match Cabinet::fresh(self.cabinet.rules, n, b) {
             Ok(cabinet) => {
                 self.cabinet = cabinet;
                 Answer::DONE

@@ -4,7 +4,7 @@ use crate::claims::Claim;
 use crate::explorer::{explore, SIZES};
 use crate::mistakes::{Mistake, Rules};
 use crate::small_states;
-use crate::state::State;
+use crate::state::{Power, State};
 
 /// Why a mistake is one.
 pub struct Refutation {
@@ -19,9 +19,7 @@ pub fn claim_against(mistake: Mistake) -> Claim {
     match mistake {
         Mistake::AssembleOneSlot => Claim::SavedAssembles,
         Mistake::CutRunsOn | Mistake::FormatWithTentative | Mistake::StaleTentative => Claim::Sound,
-        Mistake::EarlyCommit | Mistake::FallbackToCommitted | Mistake::RestartRefusesAlways => {
-            Claim::RestartFinds
-        }
+        Mistake::EarlyCommit | Mistake::FallbackToCommitted | Mistake::RestartRefusesAlways => Claim::RestartFinds,
         Mistake::FinderMissesCommitted => Claim::FinderAgrees,
         Mistake::ReadOfAnotherBlock => Claim::ReadsBook,
         Mistake::SoundIgnoresTentative => Claim::TestAgrees,
@@ -66,20 +64,22 @@ pub fn refuting_history(rules: Rules, book_rules: Rules, claim: Claim) -> Option
 fn refuting_state(rules: Rules, claim: Claim) -> Option<Refutation> {
     let fails = |state: &State| !claim.holds_in(rules, state);
     let state = small_states::all().find(fails)?;
-    let (label, other) = (state.labels[0], state.labels[1]);
-    let line = format!(
-        "the state n = {}, b = {}, R {}, {:?}, disk 0 with C {} T {} dirty {}, disk 1 with C {} T {} dirty {}",
-        state.disks,
-        state.blocks,
-        state.reach.0,
-        state.power,
-        label.committed.0,
-        label.tentative.0,
-        label.dirty,
-        other.committed.0,
-        other.tentative.0,
-        other.dirty,
+    let power = match state.power {
+        Power::Stopped => "stopped".to_string(),
+        Power::Running(current) => format!("running with G {}", current.0),
+    };
+    let label = |d: usize| {
+        let l = state.labels[d];
+        format!(
+            "disk {d} with C {} T {} dirty {}",
+            l.committed.0, l.tentative.0, l.dirty
+        )
+    };
+    let head = format!(
+        "the state n = {}, b = {}, R {}",
+        state.disks, state.blocks, state.reach.0
     );
+    let line = format!("{head}, {power}, {}, {}", label(0), label(1));
     Some(Refutation {
         claim,
         lines: vec![line],

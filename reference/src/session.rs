@@ -1,5 +1,6 @@
 //! Random sessions of the cabinet program: a fixed mix of all commands, most lines good.
 
+use crate::mistakes::Rules;
 use crate::program::Program;
 use crate::random::Random;
 use crate::state::State;
@@ -61,15 +62,16 @@ impl Session {
     pub fn new(seed: u64) -> Session {
         Session {
             random: Random::new(seed),
-            program: Program::default(),
+            program: Program::new(Rules::PAPER),
         }
     }
 
     /// The next line, without its line feed.
     pub fn line(&mut self) -> String {
-        let kind = match *self.program.state() == State::ZERO {
-            true => Kind::Fresh,
-            false => self.kind(),
+        let kind = if *self.program.state() == State::ZERO {
+            Kind::Fresh
+        } else {
+            self.kind()
         };
         let line = self.line_of(kind);
         self.program.answer(line.as_bytes());
@@ -81,11 +83,7 @@ impl Session {
         let stopped = self.program.state().is_stopped();
         let mut left = self.random.below(100);
         for (kind, running_share, stopped_share) in MIX {
-            let share = if stopped {
-                stopped_share
-            } else {
-                running_share
-            };
+            let share = if stopped { stopped_share } else { running_share };
             match left.checked_sub(share) {
                 Some(rest) => left = rest,
                 None => return kind,
@@ -123,9 +121,7 @@ impl Session {
             b = self.random.between(1, 12);
         }
         if self.random.percent(10) {
-            (n, b) = self
-                .random
-                .pick(&[(0, 1), (9, 1), (1, 0), (8, 65), (65535, 65535)]);
+            (n, b) = self.random.pick(&[(0, 1), (9, 1), (1, 0), (8, 65), (65535, 65535)]);
         }
         format!("f {n} {b}")
     }
@@ -155,9 +151,10 @@ impl Session {
     fn lost_disk(&mut self) -> u16 {
         let state = self.program.state();
         let lost: Vec<u8> = (0..state.disks).filter(|&d| !state.reach.has(d)).collect();
-        match lost.is_empty() || self.random.percent(40) {
-            true => self.disk(),
-            false => self.random.pick(&lost).into(),
+        if lost.is_empty() || self.random.percent(40) {
+            self.disk()
+        } else {
+            self.random.pick(&lost).into()
         }
     }
 

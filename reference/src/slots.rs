@@ -23,10 +23,7 @@ pub fn save(rules: Rules, state: &State, slots: &mut [u8]) -> Answer {
     let labels = (0..).zip(&state.labels);
     for ((disk, label), slot) in labels.zip(slots.chunks_mut(SLOT)) {
         let written = label::write(disk, state.disks.into(), label, slot);
-        debug_assert!(
-            written.is_ok(),
-            "the labels of a sound state can be written"
-        );
+        debug_assert!(written.is_ok(), "the labels of a sound state can be written");
     }
     Answer::DONE
 }
@@ -59,7 +56,7 @@ fn assembled(rules: Rules, n: u16, b: u16, reach: DiskSet, slots: &[u8]) -> Resu
     for disk in 0..disks {
         state.labels[disk as usize] = slot_label(disk, disks, blocks, slots)?;
     }
-    if rules.err(Mistake::AssembleOneSlot) {
+    if rules.makes(Mistake::AssembleOneSlot) {
         let first = state.labels[0];
         state.labels[..n as usize].fill(first);
     }
@@ -71,10 +68,7 @@ fn slot_label(disk: u8, disks: u8, blocks: u8, slots: &[u8]) -> Result<Label, u8
     let reading = label::read(&slots[SLOT * disk as usize..])?;
     let names_no_region = (regions(blocks)..8).any(|r| reading.label.is_dirty(r));
     refusal::first(&[
-        (
-            LABEL_NUMBERS,
-            (reading.disk, reading.disks) != (disk, disks),
-        ),
+        (LABEL_NUMBERS, (reading.disk, reading.disks) != (disk, disks)),
         (NO_SUCH_REGION, names_no_region),
     ])?;
     Ok(reading.label)

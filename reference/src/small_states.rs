@@ -7,15 +7,12 @@ use crate::state::{Power, State};
 /// All states with n = 1, b from 0 to 2, sets of disks 0 and 1, two dirty bits, and a second label that is zero or
 /// not.
 pub fn all() -> impl Iterator<Item = State> {
-    let powers = [Power::Stopped]
-        .into_iter()
-        .chain(sets().map(Power::Running));
+    let powers = [Power::Stopped].into_iter().chain(sets().map(Power::Running));
     powers.flat_map(|power| {
         let heads = (0..=2).flat_map(move |blocks| sets().map(move |reach| (blocks, reach)));
         heads.flat_map(move |(blocks, reach)| {
-            labels().flat_map(move |first| {
-                [Label::ZERO, first].map(|second| state(blocks, reach, power, [first, second]))
-            })
+            labels()
+                .flat_map(move |first| [Label::ZERO, first].map(|second| state(blocks, reach, power, [first, second])))
         })
     })
 }

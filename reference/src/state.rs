@@ -112,9 +112,7 @@ impl State {
     /// "Dirty bits name existing regions."
     fn dirty_bits_name_regions(&self) -> bool {
         let regions = self.regions();
-        self.labels
-            .iter()
-            .all(|l| (regions..8).all(|r| !l.is_dirty(r)))
+        self.labels.iter().all(|l| (regions..8).all(|r| !l.is_dirty(r)))
     }
 
     /// "Labels from n up are all zero."
@@ -129,7 +127,7 @@ impl State {
             return true;
         };
         let agrees = |l: &Label| {
-            let proposes = !l.tentative.is_empty() && !rules.err(Mistake::SoundIgnoresTentative);
+            let proposes = !l.tentative.is_empty() && !rules.makes(Mistake::SoundIgnoresTentative);
             l.committed == current && !proposes
         };
         !current.is_empty() && current.members().all(|d| agrees(&self.labels[d as usize]))

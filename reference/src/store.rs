@@ -43,7 +43,7 @@ pub fn apply(rules: Rules, store: Store, state: &mut State, area: &mut [u8]) {
 fn commit(rules: Rules, set: DiskSet, state: &mut State, disk: u8) {
     let label = &mut state.labels[disk as usize];
     label.committed = set;
-    if !rules.err(Mistake::StaleTentative) {
+    if !rules.makes(Mistake::StaleTentative) {
         label.tentative = DiskSet::EMPTY;
     }
 }

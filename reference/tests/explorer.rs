@@ -49,9 +49,10 @@ fn the_test_of_soundness_is_the_definition_on_small_states() {
     for state in small_states::all() {
         let is_sound = definitions::is_sound(&state);
         assert_eq!(state.is_sound(Rules::PAPER), is_sound, "{state:?}");
-        match is_sound {
-            true => sound += 1,
-            false => unsound += 1,
+        if is_sound {
+            sound += 1
+        } else {
+            unsound += 1
         }
     }
     assert!(sound > 20 && unsound > 1000);
@@ -123,10 +124,7 @@ fn the_stages_agree_on_all_sound_labels_of_three_disks() {
     };
     let [first, second, third] = [0, 1, 2].map(labels_of);
     let mut labels = [Label::ZERO; 8];
-    for (a, b) in first
-        .iter()
-        .flat_map(|a| second.iter().map(move |b| (a, b)))
-    {
+    for (a, b) in first.iter().flat_map(|a| second.iter().map(move |b| (a, b))) {
         for c in &third {
             labels[..3].copy_from_slice(&[*a, *b, *c]);
             names_agree(&labels, DiskSet(7));

@@ -3,7 +3,9 @@
 
 use reference::case::{self, STATE_NUMBERS};
 use reference::cases;
+use reference::driver;
 use reference::files::{self, Made};
+use reference::mistakes::{Mistake, Rules};
 use std::collections::HashMap;
 
 fn made() -> [Vec<u8>; 4] {
@@ -81,7 +83,7 @@ fn refused_cases_change_nothing() {
     let [_, _, cases_in, _] = made();
     for line in lines(&cases_in) {
         let numbers = cases::numbers(line).expect("a case is of numbers");
-        let given = case::run(&numbers).expect("a case can be run");
+        let given = case::run(Rules::PAPER, &numbers).expect("a case can be run");
         let (refusal, state) = (given[0], &numbers[1..]);
         if numbers[0] != 6 || refusal == 0 || refusal == 15 {
             continue;
@@ -100,5 +102,41 @@ fn cases_are_in_their_form() {
         let numbers = cases::numbers(line).expect("a line is of numbers");
         let words: Vec<String> = numbers.iter().map(u16::to_string).collect();
         assert_eq!(line, words.join(" ").as_bytes());
+    }
+}
+
+/// The mistakes that change no answer of the cabinet program on any input: they are about other things.
+const UNSEEN_BY_THE_PROGRAM: [Mistake; 6] = [
+    Mistake::AssembleOneSlot,
+    Mistake::BookCountsAtLastDisk,
+    Mistake::BookCountsEveryWrite,
+    Mistake::FinderMissesCommitted,
+    Mistake::SoundIgnoresTentative,
+    Mistake::WriteBoundThree,
+];
+
+/// The mistakes that change no answer of any case.
+const UNSEEN_BY_CASES: [Mistake; 4] = [
+    Mistake::BookCountsAtLastDisk,
+    Mistake::BookCountsEveryWrite,
+    Mistake::FinderMissesCommitted,
+    Mistake::WriteBoundThree,
+];
+
+#[test]
+fn the_corpus_tells_each_mistake_from_the_paper() {
+    let [stdin, stdout, _, _] = made();
+    for (mistake, name) in Mistake::ALL {
+        let differs = driver::answers(Rules::with(mistake), &stdin) != stdout;
+        assert_eq!(differs, !UNSEEN_BY_THE_PROGRAM.contains(&mistake), "{name}");
+    }
+}
+
+#[test]
+fn the_case_table_tells_each_mistake_from_the_paper() {
+    let [_, _, cases_in, cases_out] = made();
+    for (mistake, name) in Mistake::ALL {
+        let differs = cases::answers(Rules::with(mistake), &cases_in) != cases_out;
+        assert_eq!(differs, !UNSEEN_BY_CASES.contains(&mistake), "{name}");
     }
 }

@@ -134,17 +134,11 @@ fn history(random: &mut Random, n: u16, b: u16, tally: &mut Tally) {
     for _ in 0..CALLS {
         let call = random_call(random, &trial.cabinet.state);
         lines.push(call.line());
-        let length = if random.percent(95) {
-            64
-        } else {
-            random.below(129)
-        };
+        let length = if random.percent(95) { 64 } else { random.below(129) };
         let mut output = vec![170; length];
         let outcome = trial.take(&call, &mut output, &Claim::OF_CALLS);
         tally.count(&call, outcome.answer.result, &trial.cabinet.state);
-        let failed = outcome
-            .failed
-            .or_else(|| trial.failing_in_state(&Claim::OF_STATES));
+        let failed = outcome.failed.or_else(|| trial.failing_in_state(&Claim::OF_STATES));
         if let Some(claim) = failed {
             panic!("{}: {}", claim.words(Rules::PAPER), lines.join(", "));
         }

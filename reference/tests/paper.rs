@@ -92,7 +92,7 @@ fn labels_have_the_papers_bytes() {
 }
 
 fn session(input: &str, output: &str) {
-    let answers = driver::answers(input.as_bytes());
+    let answers = driver::answers(Rules::PAPER, input.as_bytes());
     assert_eq!(String::from_utf8_lossy(&answers), output);
 }
 

@@ -95,12 +95,10 @@ fn run(program: &Path, input: &Path, output: &Path) -> io::Result<Duration> {
     let start = Instant::now();
     let status = Command::new(program).stdin(input).stdout(output).status()?;
     let time = start.elapsed();
-    match status.success() {
-        true => Ok(time),
-        false => Err(io::Error::other(format!(
-            "{} ended with {status}",
-            program.display()
-        ))),
+    if status.success() {
+        Ok(time)
+    } else {
+        Err(io::Error::other(format!("{} ended with {status}", program.display())))
     }
 }
 

@@ -11,9 +11,10 @@ use std::process::ExitCode;
 
 fn main() -> ExitCode {
     let (sound, refuted) = (paper_holds(), mistakes_fail());
-    match sound && refuted {
-        true => ExitCode::SUCCESS,
-        false => ExitCode::FAILURE,
+    if sound && refuted {
+        ExitCode::SUCCESS
+    } else {
+        ExitCode::FAILURE
     }
 }
 
