@@ -1,0 +1,16 @@
+//! Rewrites the four files of the corpus and the case table in place.
+
+#![forbid(unsafe_code)]
+
+use std::{fs, io};
+
+fn main() -> io::Result<()> {
+    for file in reference::files::all() {
+        if let Some(folder) = file.path.parent() {
+            fs::create_dir_all(folder)?;
+        }
+        fs::write(&file.path, &file.bytes)?;
+        println!("{} bytes  {}", file.bytes.len(), file.path.display());
+    }
+    Ok(())
+}

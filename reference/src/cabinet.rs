@@ -1,0 +1,275 @@
+//! The cabinet: a state and a disk area, and the calls with their refusals in the paper's order.
+
+use crate::call::Call;
+use crate::label::Label;
+use crate::lists;
+use crate::mistakes::{Mistake, Rules};
+use crate::naming::{self, Found};
+use crate::refusal::{self, *};
+use crate::sets::DiskSet;
+use crate::state::{Power, State, BLOCK};
+use crate::store::{self, Store};
+
+/// What a call gives: its result, and "the number in the list that were made".
+#[derive(Clone, Copy, Debug, PartialEq, Eq)]
+pub struct Answer {
+    /// 0, or the refusal's number.
+    pub result: u8,
+    /// The number of stores made.
+    pub stores: usize,
+}
+
+impl Answer {
+    /// A done call without counted stores.
+    pub const DONE: Answer = Answer {
+        result: DONE,
+        stores: 0,
+    };
+
+    /// "A refusal gives its number, a store count of 0."
+    pub fn refused(result: u8) -> Answer {
+        Answer { result, stores: 0 }
+    }
+
+    /// The answer of a call that may have been refused.
+    fn of(outcome: Result<Answer, u8>) -> Answer {
+        outcome.unwrap_or_else(Answer::refused)
+    }
+}
+
+/// A cabinet. The state may be unsound and the area of any length: then the calls refuse.
+#[derive(Clone, Debug, PartialEq, Eq)]
+pub struct Cabinet {
+    /// The rules it follows.
+    pub rules: Rules,
+    /// The state.
+    pub state: State,
+    /// The disk area.
+    pub area: Vec<u8>,
+}
+
+/// Fresh: 4, 5, 2. "It gives all disks in reach, running, C naming all n, T and dirty 0, all blocks zero, no counted
+/// stores." Refused, it yields a state "that is all zero and stopped" and leaves the area.
+pub fn fresh(rules: Rules, n: u16, b: u16, area: &mut [u8]) -> (Answer, State) {
+    match fresh_state(rules, n, b, area.len()) {
+        Err(number) => (Answer::refused(number), State::ZERO),
+        Ok(state) => {
+            area.fill(0);
+            (Answer::DONE, state)
+        }
+    }
+}
+
+/// The state that fresh gives, or its refusal.
+fn fresh_state(rules: Rules, n: u16, b: u16, area_length: usize) -> Result<State, u8> {
+    refusal::first(&[
+        (DISK_COUNT, !(1..=8).contains(&n)),
+        (BLOCK_COUNT, !(1..=64).contains(&b)),
+    ])?;
+    let all = DiskSet::below(n as u8);
+    let mut state = State {
+        disks: n as u8,
+        blocks: b as u8,
+        reach: all,
+        power: Power::Running(all),
+        ..State::ZERO
+    };
+    refusal::first(&[(WRONG_LENGTH, area_length != state.area_length())])?;
+    let tentative = if rules.makes(Mistake::FormatWithTentative) {
+        all
+    } else {
+        DiskSet::EMPTY
+    };
+    state.labels[..n as usize].fill(Label {
+        committed: all,
+        tentative,
+        dirty: 0,
+    });
+    Ok(state)
+}
+
+impl Cabinet {
+    /// The cabinet of a done fresh call, on an area of the right length.
+    pub fn fresh(rules: Rules, n: u16, b: u16) -> Result<Cabinet, u8> {
+        let in_range = (1..=8).contains(&n) && (1..=64).contains(&b);
+        let length = if in_range { n as usize * b as usize * BLOCK } else { 0 };
+        let mut area = vec![0; length];
+        match fresh(rules, n, b, &mut area) {
+            (Answer::DONE, state) => Ok(Cabinet { rules, state, area }),
+            (answer, _) => Err(answer.result),
+        }
+    }
+
+    /// Makes a call of the list.
+    pub fn take(&mut self, call: &Call, output: &mut [u8]) -> Answer {
+        match call {
+            Call::Read { block } => self.read(*block, output),
+            Call::Write { block, data, supply } => self.write(*block, data, *supply),
+            Call::Join { disk, supply } => self.join(*disk, *supply),
+            Call::Quiet { supply } => self.quiet(*supply),
+            Call::Restart { supply } => self.restart(*supply),
+            Call::Lose { disk } => self.lose(*disk),
+            Call::Return { disk } => self.give_back(*disk),
+            Call::Cut => self.cut(),
+        }
+    }
+
+    /// "Read copies block k from the lowest member of L."
+    pub fn read(&self, block: u16, output: &mut [u8]) -> Answer {
+        Answer::of(self.reading(block, output.len()).map(|range| {
+            output.copy_from_slice(&self.area[range]);
+            Answer::DONE
+        }))
+    }
+
+    /// Read: 1, 2, 3, 6, 9, 12. Otherwise the place of the block that it copies.
+    fn reading(&self, block: u16, output: usize) -> Result<std::ops::Range<usize>, u8> {
+        refusal::first(&[
+            (UNSOUND, self.is_unsound()),
+            (WRONG_LENGTH, self.area_misfits()),
+            (NOT_A_BLOCK, output != BLOCK),
+            (STOPPED, self.state.is_stopped()),
+            (NO_SUCH_BLOCK, block >= self.state.blocks.into()),
+        ])?;
+        let lowest = self.state.live().lowest().ok_or(NONE_LIVE)?;
+        let block = if self.rules.makes(Mistake::ReadOfAnotherBlock) {
+            0
+        } else {
+            block as u8
+        };
+        Ok(self.state.block_range(lowest, block))
+    }
+
+    /// Write: 1, 2, 3, 6, 9, 12, 15.
+    pub fn write(&mut self, block: u16, data: &[u8], supply: u16) -> Answer {
+        let ready = refusal::first(&[
+            (UNSOUND, self.is_unsound()),
+            (WRONG_LENGTH, self.area_misfits()),
+            (NOT_A_BLOCK, data.len() != BLOCK),
+            (STOPPED, self.state.is_stopped()),
+            (NO_SUCH_BLOCK, block >= self.state.blocks.into()),
+            (NONE_LIVE, self.state.live().is_empty()),
+        ]);
+        Answer::of(ready.map(|()| {
+            let list = lists::write(self.rules, &self.state, block as u8, data);
+            self.carry_out(&list, supply, self.state.live())
+        }))
+    }
+
+    /// Join: 1, 2, 6, 8, 10, 11, 12, 15.
+    pub fn join(&mut self, disk: u16, supply: u16) -> Answer {
+        let beyond = disk >= self.state.disks.into();
+        let is_in = |set: DiskSet| !beyond && set.has(disk as u8);
+        let ready = refusal::first(&[
+            (UNSOUND, self.is_unsound()),
+            (WRONG_LENGTH, self.area_misfits()),
+            (STOPPED, self.state.is_stopped()),
+            (NO_SUCH_DISK, beyond),
+            (OUT_OF_REACH, !is_in(self.state.reach)),
+            (ALREADY_MEMBER, is_in(self.state.current())),
+            (NONE_LIVE, self.state.live().is_empty()),
+        ]);
+        Answer::of(ready.map(|()| {
+            let list = lists::join(self.rules, &self.state, disk as u8);
+            self.carry_out(&list, supply, self.state.live().with(disk as u8))
+        }))
+    }
+
+    /// Quiet: 1, 6, 12, 15. It takes no disk area and does not move: G stays.
+    pub fn quiet(&mut self, supply: u16) -> Answer {
+        let ready = refusal::first(&[
+            (UNSOUND, self.is_unsound()),
+            (STOPPED, self.state.is_stopped()),
+            (NONE_LIVE, self.state.live().is_empty()),
+        ]);
+        Answer::of(ready.map(|()| {
+            let list = lists::quiet(&self.state);
+            self.carry_out(&list, supply, self.state.current())
+        }))
+    }
+
+    /// Restart: 1, 2, 7, 13, 14, 15. "Then run with G = S."
+    pub fn restart(&mut self, supply: u16) -> Answer {
+        Answer::of(self.restart_set().map(|set| {
+            let list = lists::restart(self.rules, &self.state, set);
+            self.carry_out(&list, supply, set)
+        }))
+    }
+
+    /// The set that a restart names, or its refusal.
+    fn restart_set(&self) -> Result<DiskSet, u8> {
+        refusal::first(&[
+            (UNSOUND, self.is_unsound()),
+            (WRONG_LENGTH, self.area_misfits()),
+            (RUNNING, !self.state.is_stopped()),
+        ])?;
+        match naming::named(self.rules, &self.state.labels, self.state.reach) {
+            Found::None => Err(NO_CANDIDATE),
+            Found::Several => Err(SEVERAL_CANDIDATES),
+            Found::One(set) => Ok(set),
+        }
+    }
+
+    /// Lose: 1, 8. "Losing a lost disk" is "done, with no effect".
+    pub fn lose(&mut self, disk: u16) -> Answer {
+        self.change_reach(disk, DiskSet::without)
+    }
+
+    /// Return: 1, 8. "A returned disk that is in G is current again."
+    pub fn give_back(&mut self, disk: u16) -> Answer {
+        self.change_reach(disk, DiskSet::with)
+    }
+
+    /// Lose and return change only R.
+    fn change_reach(&mut self, disk: u16, change: fn(DiskSet, u8) -> DiskSet) -> Answer {
+        let ready = refusal::first(&[
+            (UNSOUND, self.is_unsound()),
+            (NO_SUCH_DISK, disk >= self.state.disks.into()),
+        ]);
+        Answer::of(ready.map(|()| {
+            self.state.reach = change(self.state.reach, disk as u8);
+            Answer::DONE
+        }))
+    }
+
+    /// Cut: 1, and none of its own.
+    pub fn cut(&mut self) -> Answer {
+        let ready = refusal::first(&[(UNSOUND, self.is_unsound())]);
+        Answer::of(ready.map(|()| {
+            self.state.power = Power::Stopped;
+            Answer::DONE
+        }))
+    }
+
+    /// "If the list is longer than the supply, exactly the first supply stores are made, the cabinet is stopped, and
+    /// the result is 15 with that count. Otherwise all are made", and the cabinet runs with `then`.
+    fn carry_out(&mut self, list: &[Store], supply: u16, then: DiskSet) -> Answer {
+        let is_cut = list.len() > supply as usize;
+        let stores = list.len().min(supply as usize);
+        let made = if self.rules.makes(Mistake::CutMakesWholeList) {
+            list
+        } else {
+            &list[..stores]
+        };
+        for &one in made {
+            store::apply(self.rules, one, &mut self.state, &mut self.area);
+        }
+        self.state.power = match is_cut {
+            true if self.rules.makes(Mistake::CutRunsOn) => Power::Running(self.state.reach),
+            true => Power::Stopped,
+            false => Power::Running(then),
+        };
+        let result = if is_cut { SUPPLY_ENDED } else { DONE };
+        Answer { result, stores }
+    }
+
+    /// The condition of refusal 1.
+    fn is_unsound(&self) -> bool {
+        !self.state.is_sound(self.rules)
+    }
+
+    /// The condition of refusal 2.
+    fn area_misfits(&self) -> bool {
+        self.area.len() != self.state.area_length()
+    }
+}

@@ -1,0 +1,38 @@
+//! The eight calls of 'The list and the book', with their arguments.
+
+/// One call. "Each with whatever numbers and with data and output of its own."
+#[derive(Clone, Debug, PartialEq, Eq)]
+pub enum Call {
+    /// Read block k.
+    Read { block: u16 },
+    /// Write block k.
+    Write { block: u16, data: Vec<u8>, supply: u16 },
+    /// Join disk d.
+    Join { disk: u16, supply: u16 },
+    /// Quiet.
+    Quiet { supply: u16 },
+    /// Restart.
+    Restart { supply: u16 },
+    /// Lose disk d.
+    Lose { disk: u16 },
+    /// Return disk d.
+    Return { disk: u16 },
+    /// Cut the power.
+    Cut,
+}
+
+impl Call {
+    /// The call as a line of the cabinet program, which writes a block by its first byte.
+    pub fn line(&self) -> String {
+        match self {
+            Call::Read { block } => format!("g {block}"),
+            Call::Write { block, data, supply } => format!("w {block} {} {supply}", data.first().unwrap_or(&0)),
+            Call::Join { disk, supply } => format!("j {disk} {supply}"),
+            Call::Quiet { supply } => format!("q {supply}"),
+            Call::Restart { supply } => format!("s {supply}"),
+            Call::Lose { disk } => format!("x {disk}"),
+            Call::Return { disk } => format!("r {disk}"),
+            Call::Cut => "c".to_string(),
+        }
+    }
+}

@@ -1,0 +1,197 @@
+//! What the paper claims of every list of calls: demand 3, and the claims that stand beside it.
+
+use crate::book::Book;
+use crate::cabinet::{Answer, Cabinet};
+use crate::call::Call;
+use crate::definitions;
+use crate::lists;
+use crate::mistakes::{Mistake, Rules};
+use crate::naming::{self, Found};
+use crate::refusal::*;
+use crate::sets::DiskSet;
+use crate::slots::{self, SLOT};
+use crate::state::{Power, State};
+
+/// One claim.
+#[derive(Clone, Copy, Debug, PartialEq, Eq)]
+pub enum Claim {
+    /// Demand 3: blocks after a finished restart.
+    RestartedBlocks,
+    /// Demand 3: no 14.
+    NotSeveral,
+    /// Demand 3: a restart with all disks in reach.
+    RestartFinds,
+    /// Soundness after each call.
+    Sound,
+    /// No call gives 1.
+    NoneUnsound,
+    /// Reads yield the book.
+    ReadsBook,
+    /// Acknowledged writes count.
+    AcknowledgedCounts,
+    /// The bound of a write.
+    WriteBound,
+    /// Refusals change nothing.
+    RefusedUnchanged,
+    /// Saving and assembling.
+    SavedAssembles,
+    /// The stages name what the definition says.
+    NamedAsDefined,
+    /// The finder agrees with the definition.
+    FinderAgrees,
+    /// The test of soundness agrees with the definition; a claim about any state, not only reached ones.
+    TestAgrees,
+}
+
+/// A call that was made: what was before it and what is after it.
+pub struct Event<'a> {
+    /// The state before.
+    pub before: &'a State,
+    /// The call.
+    pub call: &'a Call,
+    /// Its answer.
+    pub answer: Answer,
+    /// The output that it was given, as it is after the call.
+    pub output: &'a [u8],
+    /// The cabinet after.
+    pub after: &'a Cabinet,
+    /// The book after.
+    pub book: &'a Book,
+    /// Whether the call is a write that counts in the book.
+    pub counted: bool,
+}
+
+impl Claim {
+    /// The claims about each state that is reached.
+    pub const OF_STATES: [Claim; 5] = [
+        Claim::Sound,
+        Claim::SavedAssembles,
+        Claim::NamedAsDefined,
+        Claim::FinderAgrees,
+        Claim::TestAgrees,
+    ];
+
+    /// The claims about each call that is made.
+    pub const OF_CALLS: [Claim; 8] = [
+        Claim::RestartedBlocks,
+        Claim::NotSeveral,
+        Claim::RestartFinds,
+        Claim::NoneUnsound,
+        Claim::ReadsBook,
+        Claim::AcknowledgedCounts,
+        Claim::WriteBound,
+        Claim::RefusedUnchanged,
+    ];
+
+    /// All claims.
+    pub fn all() -> Vec<Claim> {
+        [&Claim::OF_CALLS[..], &Claim::OF_STATES[..]].concat()
+    }
+
+    /// The claim in words, as these rules have it.
+    pub fn words(self, rules: Rules) -> String {
+        let words = match self {
+            Claim::RestartedBlocks => "after a finished restart each block of each named disk equals the book's",
+            Claim::NotSeveral => "no restart gives 14",
+            Claim::RestartFinds => {
+                "a restart of a stopped cabinet with all disks in reach finds a set, \
+                 and gives 0 when its supply suffices"
+            }
+            Claim::Sound => "the state is sound after each call",
+            Claim::NoneUnsound => "no call gives 1",
+            Claim::ReadsBook => "a read that gives 0 yields the book's block",
+            Claim::AcknowledgedCounts => "a write that gives 0 counts in the book",
+            Claim::WriteBound => {
+                let bound = write_bound(rules);
+                return format!("a write makes at most {bound} times as many stores as L has disks");
+            }
+            Claim::RefusedUnchanged => "a refusal other than 15 counts no stores, keeps the state",
+            Claim::SavedAssembles => "a saved state, assembled with its R, is the state after a cut",
+            Claim::NamedAsDefined => "the stages name the set that the definition says",
+            Claim::FinderAgrees => "the finder, with one set a disk, gives the definition's answer",
+            Claim::TestAgrees => "the test of soundness gives the definition's answer",
+        };
+        words.to_string()
+    }
+
+    /// Whether a claim about states holds in this one.
+    pub fn holds_in(self, rules: Rules, state: &State) -> bool {
+        let defined = || definitions::named(&state.labels, state.reach);
+        match self {
+            Claim::Sound => definitions::is_sound(state),
+            Claim::SavedAssembles => saved_assembles(rules, state),
+            Claim::NamedAsDefined => naming::named(rules, &state.labels, state.reach) == defined(),
+            Claim::FinderAgrees => naming::found_by_disks(rules, &state.labels, state.reach) == defined(),
+            Claim::TestAgrees => state.is_sound(rules) == definitions::is_sound(state),
+            _ => true,
+        }
+    }
+
+    /// Whether a claim about calls holds of this one.
+    pub fn holds_of(self, event: &Event) -> bool {
+        let result = event.answer.result;
+        match (self, event.call) {
+            (Claim::RestartedBlocks, Call::Restart { .. }) => result != DONE || named_disks_equal_book(event),
+            (Claim::NotSeveral, Call::Restart { .. }) => result != SEVERAL_CANDIDATES,
+            (Claim::RestartFinds, Call::Restart { supply }) => restart_finds(event, *supply),
+            (Claim::NoneUnsound, _) => result != UNSOUND,
+            (Claim::ReadsBook, Call::Read { block }) => {
+                result != DONE || event.output == event.book.block(*block as usize)
+            }
+            (Claim::AcknowledgedCounts, Call::Write { .. }) => result != DONE || event.counted,
+            (Claim::WriteBound, Call::Write { .. }) => {
+                event.answer.stores <= write_bound(event.after.rules) * event.before.live().size()
+            }
+            (Claim::RefusedUnchanged, _) => {
+                let is_carried = [DONE, SUPPLY_ENDED].contains(&result);
+                is_carried || event.answer.stores == 0 && event.after.state == *event.before
+            }
+            _ => true,
+        }
+    }
+}
+
+/// "A write makes at most 4 times as many stores as L has disks."
+fn write_bound(rules: Rules) -> usize {
+    if rules.makes(Mistake::WriteBoundThree) {
+        3
+    } else {
+        4
+    }
+}
+
+/// "For each disk d of that G and each k below b, block k of d in the disk area equals block k of the book."
+fn named_disks_equal_book(event: &Event) -> bool {
+    let part = event.book.blocks.len();
+    let disk = |d: u8| &event.after.area[d as usize * part..][..part];
+    let mut named = event.after.state.current().members();
+    named.all(|d| disk(d) == event.book.blocks)
+}
+
+/// "Each one of a stopped cabinet with all n disks in R finds a set, and gives 0 when its supply is at least the length
+/// of its list of stores."
+fn restart_finds(event: &Event, supply: u16) -> bool {
+    let (rules, before) = (event.after.rules, event.before);
+    if !before.is_stopped() || before.reach != DiskSet::below(before.disks) {
+        return true;
+    }
+    let Found::One(set) = naming::named(rules, &before.labels, before.reach) else {
+        return false;
+    };
+    let suffices = lists::restart(rules, before, set).len() <= supply as usize;
+    let result = event.answer.result;
+    result == DONE || result == SUPPLY_ENDED && !suffices
+}
+
+/// "From a saved state with its own R it gives the state after a cut."
+fn saved_assembles(rules: Rules, state: &State) -> bool {
+    let mut bytes = vec![0; SLOT * state.disks as usize];
+    let saved = slots::save(rules, state, &mut bytes);
+    let (n, b) = (state.disks.into(), state.blocks.into());
+    let (assembled, given) = slots::assemble(rules, n, b, state.reach, &bytes);
+    let after_cut = State {
+        power: Power::Stopped,
+        ..*state
+    };
+    (saved.result, assembled.result) == (DONE, DONE) && given == after_cut
+}

@@ -1,0 +1,102 @@
+//! Wrong rules, each of which some claim of the paper excludes, and the rule set that says which one is in force.
+//!
+//! The names are those of the product's list of edits that must fail, so that the two lists can be compared.
+
+/// One wrong rule.
+#[derive(Clone, Copy, Debug, PartialEq, Eq)]
+pub enum Mistake {
+    /// Assembling takes every label from the first slot.
+    AssembleOneSlot,
+    /// A write stores its blocks before it moves and sets the dirty bits.
+    BlocksBeforeBits,
+    /// The book counts a write when its whole list is made.
+    BookCountsAtLastDisk,
+    /// The book counts a write wherever it is cut.
+    BookCountsEveryWrite,
+    /// A restart clears a region's dirty bits before its copies.
+    ClearsBeforeCopies,
+    /// A restart copies from the second member.
+    CopiesFromOtherMember,
+    /// A call that is cut makes its whole list and reports the supply.
+    CutMakesWholeList,
+    /// A call that is cut leaves the cabinet running with the disks in reach.
+    CutRunsOn,
+    /// A move commits each disk before it proposes to the next one.
+    EarlyCommit,
+    /// No stage 2: committed sets decide whenever some tentative set is missing.
+    FallbackToCommitted,
+    /// The finder tries tentative sets in stage 3 too.
+    FinderMissesCommitted,
+    /// Fresh gives labels that have a tentative set.
+    FormatWithTentative,
+    /// A join moves first and copies afterwards.
+    JoinBeforeCopies,
+    /// One member suffices for a stage, and the largest of several sets is taken.
+    LargerSet,
+    /// A read yields block 0.
+    ReadOfAnotherBlock,
+    /// A restart clears a region's dirty bits and copies nothing.
+    RestartCopiesNothing,
+    /// A restart names all disks in reach.
+    RestartNamesAll,
+    /// A restart never finds a set.
+    RestartRefusesAlways,
+    /// The test of soundness does not look at a member's tentative set.
+    SoundIgnoresTentative,
+    /// Stage 2 does not ask that some member has T = X.
+    StageTwoWithoutProposal,
+    /// A commit leaves the tentative set on the disk.
+    StaleTentative,
+    /// The claimed bound of a write is 3 stores a disk.
+    WriteBoundThree,
+    /// A write stores its block on no disk.
+    WriteStoresNothing,
+}
+
+impl Mistake {
+    /// Every mistake with its name.
+    pub const ALL: [(Mistake, &'static str); 23] = [
+        (Mistake::AssembleOneSlot, "assemble_one_slot"),
+        (Mistake::BlocksBeforeBits, "blocks_before_bits"),
+        (Mistake::BookCountsAtLastDisk, "book_counts_at_last_disk"),
+        (Mistake::BookCountsEveryWrite, "book_counts_every_write"),
+        (Mistake::ClearsBeforeCopies, "clears_before_copies"),
+        (Mistake::CopiesFromOtherMember, "copies_from_other_member"),
+        (Mistake::CutMakesWholeList, "cut_makes_whole_list"),
+        (Mistake::CutRunsOn, "cut_runs_on"),
+        (Mistake::EarlyCommit, "early_commit"),
+        (Mistake::FallbackToCommitted, "fallback_to_committed"),
+        (Mistake::FinderMissesCommitted, "finder_misses_committed"),
+        (Mistake::FormatWithTentative, "format_with_tentative"),
+        (Mistake::JoinBeforeCopies, "join_before_copies"),
+        (Mistake::LargerSet, "larger_set"),
+        (Mistake::ReadOfAnotherBlock, "read_of_another_block"),
+        (Mistake::RestartCopiesNothing, "restart_copies_nothing"),
+        (Mistake::RestartNamesAll, "restart_names_all"),
+        (Mistake::RestartRefusesAlways, "restart_refuses_always"),
+        (Mistake::SoundIgnoresTentative, "sound_ignores_tentative"),
+        (Mistake::StageTwoWithoutProposal, "stage_two_without_proposal"),
+        (Mistake::StaleTentative, "stale_tentative"),
+        (Mistake::WriteBoundThree, "write_bound_three"),
+        (Mistake::WriteStoresNothing, "write_stores_nothing"),
+    ];
+}
+
+/// The paper's rules, or the paper's with one mistake.
+#[derive(Clone, Copy, Debug, PartialEq, Eq)]
+pub struct Rules(Option<Mistake>);
+
+impl Rules {
+    /// The paper's rules.
+    pub const PAPER: Rules = Rules(None);
+
+    /// The paper's rules with this mistake.
+    pub fn with(mistake: Mistake) -> Rules {
+        Rules(Some(mistake))
+    }
+
+    /// Whether this mistake is in force.
+    pub fn makes(self, mistake: Mistake) -> bool {
+        self.0 == Some(mistake)
+    }
+}

@@ -1,0 +1,106 @@
+//! 'Which set a restart names.'
+
+use crate::label::Label;
+use crate::mistakes::{Mistake, Rules};
+use crate::sets::DiskSet;
+
+/// What the stages yield.
+#[derive(Clone, Copy, Debug, PartialEq, Eq)]
+pub enum Found {
+    /// "No candidate in any stage is 13."
+    None,
+    /// "One candidate is the set."
+    One(DiskSet),
+    /// "More than one is refused with 14."
+    Several,
+}
+
+/// The three stages.
+#[derive(Clone, Copy, Debug, PartialEq, Eq)]
+enum Stage {
+    /// "Every member has T = X."
+    First,
+    /// "Every member has T = X or C = X, and some member has T = X."
+    Second,
+    /// "Every member has C = X."
+    Third,
+}
+
+/// The stages in their order.
+const STAGES: [Stage; 3] = [Stage::First, Stage::Second, Stage::Third];
+
+/// The set that a restart names: a search over all sets X inside R in each stage. "The first stage with a candidate
+/// decides."
+pub fn named(rules: Rules, labels: &[Label; 8], reach: DiskSet) -> Found {
+    if rules.makes(Mistake::RestartNamesAll) {
+        return Found::One(reach);
+    }
+    if rules.makes(Mistake::RestartRefusesAlways) {
+        return Found::None;
+    }
+    decide(rules, |stage| {
+        let fits = |x: &DiskSet| is_candidate(rules, stage, labels, *x);
+        reach.sets_inside().filter(fits).collect()
+    })
+}
+
+/// The same by one set a disk: T in the first two stages and C in the third, since a candidate of a stage is that set
+/// of one of its members. A law and the explorer compare it with the search.
+pub fn found_by_disks(rules: Rules, labels: &[Label; 8], reach: DiskSet) -> Found {
+    decide(rules, |stage| {
+        let tried = |d: u8| tried(rules, stage, &labels[d as usize]);
+        let fits = |x: &DiskSet| x.inside(reach) && is_candidate(rules, stage, labels, *x);
+        let mut sets: Vec<DiskSet> = reach.members().map(tried).filter(fits).collect();
+        sets.sort();
+        sets.dedup();
+        sets
+    })
+}
+
+/// The one set of a disk that is tried in a stage.
+fn tried(rules: Rules, stage: Stage, label: &Label) -> DiskSet {
+    match stage {
+        Stage::Third if !rules.makes(Mistake::FinderMissesCommitted) => label.committed,
+        _ => label.tentative,
+    }
+}
+
+/// "The first stage with a candidate decides: one candidate is the set, more than one is refused."
+fn decide(rules: Rules, candidates: impl Fn(Stage) -> Vec<DiskSet>) -> Found {
+    for stage in STAGES {
+        if stage == Stage::Second && rules.makes(Mistake::FallbackToCommitted) {
+            continue;
+        }
+        match candidates(stage).as_slice() {
+            [] => continue,
+            [set] => return Found::One(*set),
+            several if rules.makes(Mistake::LargerSet) => return largest(several),
+            _ => return Found::Several,
+        }
+    }
+    Found::None
+}
+
+/// A mistake's choice: the largest of several sets, and of those of one size the last.
+fn largest(sets: &[DiskSet]) -> Found {
+    let largest = sets.iter().copied().max_by_key(|x| x.size());
+    largest.map_or(Found::None, Found::One)
+}
+
+/// Whether X is a candidate in this stage: it is not empty, and its members' labels are as the stage asks.
+fn is_candidate(rules: Rules, stage: Stage, labels: &[Label; 8], x: DiskSet) -> bool {
+    let proposes = |d: u8| labels[d as usize].tentative == x;
+    let has_committed = |d: u8| labels[d as usize].committed == x;
+    let backs = |d: u8| match stage {
+        Stage::First => proposes(d),
+        Stage::Second => proposes(d) || has_committed(d),
+        Stage::Third => has_committed(d),
+    };
+    let backed = if rules.makes(Mistake::LargerSet) {
+        x.members().any(backs)
+    } else {
+        !x.is_empty() && x.members().all(backs)
+    };
+    let asks_proposal = stage == Stage::Second && !rules.makes(Mistake::StageTwoWithoutProposal);
+    backed && (!asks_proposal || x.members().any(proposes))
+}

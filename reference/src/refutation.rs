@@ -1,0 +1,87 @@
+//! For each mistake the claim that refuses it, and the history or the state on which that claim fails.
+
+use crate::claims::Claim;
+use crate::explorer::{explore, SIZES};
+use crate::mistakes::{Mistake, Rules};
+use crate::small_states;
+use crate::state::{Power, State};
+
+/// Why a mistake is one.
+pub struct Refutation {
+    /// The claim that fails.
+    pub claim: Claim,
+    /// The lines of a shortest history of the smallest cabinet on which it fails, or a state in words.
+    pub lines: Vec<String>,
+}
+
+/// The claim that refuses a mistake.
+pub fn claim_against(mistake: Mistake) -> Claim {
+    match mistake {
+        Mistake::AssembleOneSlot => Claim::SavedAssembles,
+        Mistake::CutRunsOn | Mistake::FormatWithTentative | Mistake::StaleTentative => Claim::Sound,
+        Mistake::EarlyCommit | Mistake::FallbackToCommitted | Mistake::RestartRefusesAlways => Claim::RestartFinds,
+        Mistake::FinderMissesCommitted => Claim::FinderAgrees,
+        Mistake::ReadOfAnotherBlock => Claim::ReadsBook,
+        Mistake::SoundIgnoresTentative => Claim::TestAgrees,
+        Mistake::StageTwoWithoutProposal => Claim::NamedAsDefined,
+        Mistake::WriteBoundThree => Claim::WriteBound,
+        Mistake::WriteStoresNothing => Claim::AcknowledgedCounts,
+        Mistake::BlocksBeforeBits
+        | Mistake::BookCountsAtLastDisk
+        | Mistake::BookCountsEveryWrite
+        | Mistake::ClearsBeforeCopies
+        | Mistake::CopiesFromOtherMember
+        | Mistake::CutMakesWholeList
+        | Mistake::JoinBeforeCopies
+        | Mistake::LargerSet
+        | Mistake::RestartCopiesNothing
+        | Mistake::RestartNamesAll => Claim::RestartedBlocks,
+    }
+}
+
+/// Looks for a failure of the claim against a mistake: in the smallest cabinet first, and there for a shortest
+/// history. The mistake is one of the paper, which cabinet and book both follow: so the claim does not fail for a mere
+/// difference between the two.
+pub fn refute(mistake: Mistake) -> Option<Refutation> {
+    let (rules, claim) = (Rules::with(mistake), claim_against(mistake));
+    match claim {
+        Claim::TestAgrees => refuting_state(rules, claim),
+        _ => refuting_history(rules, rules, claim),
+    }
+}
+
+/// A shortest history on which the claim fails, when the cabinet and the book follow these rules.
+pub fn refuting_history(rules: Rules, book_rules: Rules, claim: Claim) -> Option<Refutation> {
+    let failure = |size| explore(rules, book_rules, size, &[claim]).failure;
+    let found = SIZES.into_iter().find_map(failure)?;
+    Some(Refutation {
+        claim: found.claim,
+        lines: found.history,
+    })
+}
+
+/// A small state, reachable or not, in which the claim fails.
+fn refuting_state(rules: Rules, claim: Claim) -> Option<Refutation> {
+    let fails = |state: &State| !claim.holds_in(rules, state);
+    let state = small_states::all().find(fails)?;
+    let power = match state.power {
+        Power::Stopped => "stopped".to_string(),
+        Power::Running(current) => format!("running with G {}", current.0),
+    };
+    let label = |d: usize| {
+        let l = state.labels[d];
+        format!(
+            "disk {d} with C {} T {} dirty {}",
+            l.committed.0, l.tentative.0, l.dirty
+        )
+    };
+    let head = format!(
+        "the state n = {}, b = {}, R {}",
+        state.disks, state.blocks, state.reach.0
+    );
+    let line = format!("{head}, {power}, {}, {}", label(0), label(1));
+    Some(Refutation {
+        claim,
+        lines: vec![line],
+    })
+}

@@ -1,0 +1,75 @@
+//! The saved form: "each disk has a slot of 5 bytes, the rest of the slot zero".
+
+use crate::cabinet::Answer;
+use crate::label::{self, Label};
+use crate::mistakes::{Mistake, Rules};
+use crate::refusal::{self, *};
+use crate::sets::DiskSet;
+use crate::state::{regions, Power, State};
+
+/// The bytes of one slot.
+pub const SLOT: usize = 5;
+
+/// Save: 1, and 2, "the slot buffer is not 5 × n bytes".
+pub fn save(rules: Rules, state: &State, slots: &mut [u8]) -> Answer {
+    let ready = refusal::first(&[
+        (UNSOUND, !state.is_sound(rules)),
+        (WRONG_LENGTH, slots.len() != SLOT * state.disks as usize),
+    ]);
+    if let Err(number) = ready {
+        return Answer::refused(number);
+    }
+    slots.fill(0);
+    let labels = (0..).zip(&state.labels);
+    for ((disk, label), slot) in labels.zip(slots.chunks_mut(SLOT)) {
+        let written = label::write(disk, state.disks.into(), label, slot);
+        debug_assert!(written.is_ok(), "the labels of a sound state can be written");
+    }
+    Answer::DONE
+}
+
+/// Assemble: "takes n, b, R and n slots, and gives a stopped state". Refused, it yields one "that is all zero and
+/// stopped".
+pub fn assemble(rules: Rules, n: u16, b: u16, reach: DiskSet, slots: &[u8]) -> (Answer, State) {
+    match assembled(rules, n, b, reach, slots) {
+        Ok(state) => (Answer::DONE, state),
+        Err(number) => (Answer::refused(number), State::ZERO),
+    }
+}
+
+/// Assemble: "4. 5. 2, slots not 5 × n bytes. 8, R names a disk from n up." Then slot by slot, ascending.
+fn assembled(rules: Rules, n: u16, b: u16, reach: DiskSet, slots: &[u8]) -> Result<State, u8> {
+    refusal::first(&[
+        (DISK_COUNT, !(1..=8).contains(&n)),
+        (BLOCK_COUNT, !(1..=64).contains(&b)),
+        (WRONG_LENGTH, slots.len() != SLOT * n as usize),
+    ])?;
+    let (disks, blocks) = (n as u8, b as u8);
+    refusal::first(&[(NO_SUCH_DISK, !reach.inside(DiskSet::below(disks)))])?;
+    let mut state = State {
+        disks,
+        blocks,
+        reach,
+        power: Power::Stopped,
+        ..State::ZERO
+    };
+    for disk in 0..disks {
+        state.labels[disk as usize] = slot_label(disk, disks, blocks, slots)?;
+    }
+    if rules.makes(Mistake::AssembleOneSlot) {
+        let first = state.labels[0];
+        state.labels[..n as usize].fill(first);
+    }
+    Ok(state)
+}
+
+/// One slot: "the label's own refusal; 18, its number or n is not this slot's; 22, a dirty bit names no region".
+fn slot_label(disk: u8, disks: u8, blocks: u8, slots: &[u8]) -> Result<Label, u8> {
+    let reading = label::read(&slots[SLOT * disk as usize..])?;
+    let names_no_region = (regions(blocks)..8).any(|r| reading.label.is_dirty(r));
+    refusal::first(&[
+        (LABEL_NUMBERS, (reading.disk, reading.disks) != (disk, disks)),
+        (NO_SUCH_REGION, names_no_region),
+    ])?;
+    Ok(reading.label)
+}

@@ -1,0 +1,149 @@
+//! The explorer under the paper's rules: every claim holds in every reachable state of the small cabinets.
+
+use reference::claims::Claim;
+use reference::definitions;
+use reference::explorer::explore;
+use reference::label::Label;
+use reference::mistakes::Rules;
+use reference::naming::{found_by_disks, named};
+use reference::random::Random;
+use reference::sets::DiskSet;
+use reference::small_states;
+use reference::state::{Power, State};
+
+/// Explores a cabinet, and expects so many states and calls: a change of these numbers wants a reason.
+fn all_claims_hold(n: u16, b: u16, states: usize, calls: usize) {
+    let survey = explore(Rules::PAPER, Rules::PAPER, (n, b), &Claim::all());
+    if let Some(failure) = survey.failure {
+        let claim = failure.claim.words(Rules::PAPER);
+        panic!("{claim}: {}", failure.history.join(", "));
+    }
+    assert_eq!((survey.states, survey.transitions), (states, calls));
+}
+
+#[test]
+fn all_claims_hold_with_one_disk() {
+    all_claims_hold(1, 1, 8, 130);
+    all_claims_hold(1, 2, 16, 320);
+}
+
+#[test]
+fn all_claims_hold_with_two_disks() {
+    all_claims_hold(2, 1, 404, 7_995);
+    all_claims_hold(2, 2, 1_328, 31_400);
+}
+
+#[test]
+fn all_claims_hold_with_three_disks_of_one_block() {
+    all_claims_hold(3, 1, 135_048, 3_123_212);
+}
+
+#[test]
+fn all_claims_hold_with_three_disks_of_two_blocks() {
+    all_claims_hold(3, 2, 830_768, 22_540_880);
+}
+
+#[test]
+fn the_test_of_soundness_is_the_definition_on_small_states() {
+    let (mut sound, mut unsound) = (0, 0);
+    for state in small_states::all() {
+        let is_sound = definitions::is_sound(&state);
+        assert_eq!(state.is_sound(Rules::PAPER), is_sound, "{state:?}");
+        if is_sound {
+            sound += 1
+        } else {
+            unsound += 1
+        }
+    }
+    assert!(sound > 20 && unsound > 1000);
+}
+
+/// A state with numbers that are near the bounds.
+fn random_state(random: &mut Random) -> State {
+    let all = DiskSet::below(random.between(1, 9) as u8);
+    let mut state = State {
+        disks: random.between(0, 9) as u8,
+        blocks: random.pick(&[0, 1, 8, 9, 16, 63, 64, 65, 255]),
+        reach: all.and(DiskSet(random.byte())),
+        ..State::ZERO
+    };
+    let current = all.and(DiskSet(random.byte()));
+    if random.percent(60) {
+        state.power = Power::Running(current);
+    }
+    for d in 0..random.below(9) {
+        let own = current.with(d as u8);
+        state.labels[d] = Label {
+            committed: random.pick(&[current, current, current, own, DiskSet::EMPTY]),
+            tentative: random.pick(&[DiskSet::EMPTY, DiskSet::EMPTY, own]),
+            dirty: random.pick(&[0, 0, 1, 2, 128]),
+        };
+    }
+    state
+}
+
+#[test]
+fn the_test_of_soundness_is_the_definition_on_random_states() {
+    let mut random = Random::new(3);
+    let mut sound = 0;
+    for _ in 0..300_000 {
+        let state = random_state(&mut random);
+        let is_sound = definitions::is_sound(&state);
+        assert_eq!(state.is_sound(Rules::PAPER), is_sound, "{state:?}");
+        sound += usize::from(is_sound);
+    }
+    assert!(sound > 1000, "{sound}");
+}
+
+/// The search, the definition in other words and the finder agree.
+fn names_agree(labels: &[Label; 8], reach: DiskSet) {
+    let defined = definitions::named(labels, reach);
+    assert_eq!(named(Rules::PAPER, labels, reach), defined, "{labels:?}");
+    let by_disks = found_by_disks(Rules::PAPER, labels, reach);
+    assert_eq!(by_disks, defined, "{labels:?}");
+}
+
+/// The sets of a sound label of this disk of three.
+fn sets_of(disk: u8) -> Vec<DiskSet> {
+    let sets = DiskSet(7).sets_inside();
+    sets.filter(|x| x.is_empty() || x.has(disk)).collect()
+}
+
+#[test]
+fn the_stages_agree_on_all_sound_labels_of_three_disks() {
+    let labels_of = |disk: u8| {
+        let sets = sets_of(disk);
+        let pair = |&committed: &DiskSet| {
+            sets_of(disk).into_iter().map(move |tentative| Label {
+                committed,
+                tentative,
+                dirty: 0,
+            })
+        };
+        sets.iter().flat_map(pair).collect::<Vec<Label>>()
+    };
+    let [first, second, third] = [0, 1, 2].map(labels_of);
+    let mut labels = [Label::ZERO; 8];
+    for (a, b) in first.iter().flat_map(|a| second.iter().map(move |b| (a, b))) {
+        for c in &third {
+            labels[..3].copy_from_slice(&[*a, *b, *c]);
+            names_agree(&labels, DiskSet(7));
+            names_agree(&labels, DiskSet(5));
+        }
+    }
+}
+
+#[test]
+fn the_stages_agree_on_random_labels_of_eight_disks() {
+    let mut random = Random::new(4);
+    for _ in 0..20_000 {
+        let common = [random.byte(), random.byte(), random.byte(), 0].map(DiskSet);
+        let mut labels = [Label::ZERO; 8];
+        for label in &mut labels {
+            label.committed = random.pick(&common);
+            label.tentative = random.pick(&common);
+        }
+        let reach = DiskSet(random.byte() | random.byte() | random.byte());
+        names_agree(&labels, reach);
+    }
+}

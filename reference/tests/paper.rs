@@ -1,0 +1,122 @@
+//! The paper's own examples: H1 to H14 and the session.
+
+use reference::cabinet::{Answer, Cabinet};
+use reference::driver;
+use reference::label::{self, Label};
+use reference::mistakes::Rules;
+use reference::naming::{found_by_disks, named, Found};
+use reference::sets::DiskSet;
+use reference::state::{Power, State};
+
+/// C and T of each disk, R, and what a restart finds.
+type Example = (&'static str, &'static [u8], &'static [u8], u8, Found);
+
+const RESTARTS: [Example; 10] = [
+    ("H1", &[1, 3, 7], &[0, 0, 0], 7, Found::One(DiskSet(1))),
+    ("H2", &[1, 3, 7], &[0, 0, 0], 6, Found::None),
+    ("H3", &[3, 3, 6], &[0, 0, 0], 7, Found::One(DiskSet(3))),
+    ("H4", &[7, 7, 7], &[3, 3, 0], 3, Found::One(DiskSet(3))),
+    ("H5", &[3, 7, 7], &[0, 3, 0], 7, Found::One(DiskSet(3))),
+    ("H6", &[7, 7, 7], &[3, 0, 0], 3, Found::None),
+    ("H7", &[7, 7, 7], &[3, 0, 0], 7, Found::One(DiskSet(7))),
+    ("H8", &[3, 3, 7], &[7, 7, 7], 3, Found::One(DiskSet(3))),
+    ("H9", &[3, 3, 7], &[7, 7, 7], 7, Found::One(DiskSet(7))),
+    ("H10", &[1, 2], &[0, 0], 3, Found::Several),
+];
+
+fn stopped(committed: &[u8], tentative: &[u8], reach: u8) -> State {
+    let mut state = State {
+        disks: committed.len() as u8,
+        blocks: 1,
+        reach: DiskSet(reach),
+        ..State::ZERO
+    };
+    for (d, label) in state.labels[..committed.len()].iter_mut().enumerate() {
+        label.committed = DiskSet(committed[d]);
+        label.tentative = DiskSet(tentative[d]);
+    }
+    state
+}
+
+#[test]
+fn restarts_name_what_the_paper_says() {
+    for (name, committed, tentative, reach, found) in RESTARTS {
+        let state = stopped(committed, tentative, reach);
+        let by_sets = named(Rules::PAPER, &state.labels, state.reach);
+        let by_disks = found_by_disks(Rules::PAPER, &state.labels, state.reach);
+        assert_eq!(by_sets, found, "{name}");
+        assert_eq!(by_disks, found, "{name}");
+    }
+}
+
+#[test]
+fn restarts_answer_what_the_paper_says() {
+    for (name, committed, tentative, reach, found) in RESTARTS {
+        let state = stopped(committed, tentative, reach);
+        let area = vec![0; state.area_length()];
+        let rules = Rules::PAPER;
+        let mut cabinet = Cabinet { rules, state, area };
+        let answer = cabinet.restart(99);
+        let (result, stores, power) = match found {
+            Found::None => (13, 0, Power::Stopped),
+            Found::Several => (14, 0, Power::Stopped),
+            Found::One(set) => (0, set.size(), Power::Running(set)),
+        };
+        assert_eq!(answer, Answer { result, stores }, "{name}");
+        assert_eq!(cabinet.state.power, power, "{name}");
+    }
+}
+
+#[test]
+fn labels_have_the_papers_bytes() {
+    let h11 = Label {
+        committed: DiskSet(3),
+        dirty: 1,
+        ..Label::ZERO
+    };
+    let examples: [(u16, u16, Label, &[u8]); 2] = [
+        (1, 3, h11, &[0x05, 0x31, 0x03, 0x01]),
+        (0, 1, Label::ZERO, &[0x00, 0x10]),
+    ];
+    for (disk, disks, label, bytes) in examples {
+        let mut output = [170; 8];
+        let length = bytes.len();
+        assert_eq!(label::write(disk, disks, &label, &mut output), Ok(length));
+        assert_eq!(&output[..length], bytes);
+        assert!(output[length..].iter().all(|&x| x == 170));
+        let reading = label::read(&output).expect("a written label can be read");
+        assert_eq!(reading.label, label);
+        assert_eq!((reading.disk as u16, reading.disks as u16), (disk, disks));
+        assert_eq!(reading.length, length);
+    }
+}
+
+fn session(input: &str, output: &str) {
+    let answers = driver::answers(Rules::PAPER, input.as_bytes());
+    assert_eq!(String::from_utf8_lossy(&answers), output);
+}
+
+#[test]
+fn the_session_prints_what_the_paper_prints() {
+    session(
+        "f 3 8\nx 2\nw 0 7 99\nc\ns 99\nr 2\nj 2 99\ng 0\n",
+        "0 0 7 7 0\n0 0 7 3 0\n0 8 3 3 0\n0 0 0 3 0\n0 12 3 3 0\n0 0 3 7 0\n0 14 7 7 0\n0 0 7 7 7\n",
+    );
+}
+
+#[test]
+fn h13_a_write_of_one_store_keeps_the_old_block() {
+    session(
+        "f 1 1\nw 0 5 1\ns 99\ng 0\n",
+        "0 0 1 1 0\n15 1 0 1 0\n0 2 1 1 0\n0 0 1 1 0\n",
+    );
+    session("f 1 1\nw 0 5 2\ng 0\n", "0 0 1 1 0\n0 2 1 1 0\n0 0 1 1 5\n");
+}
+
+#[test]
+fn h14_a_write_of_three_stores_has_the_new_block() {
+    session(
+        "f 2 1\nw 0 5 3\ns 99\ng 0\nx 0\ng 0\n",
+        "0 0 3 3 0\n15 3 0 3 0\n0 5 3 3 0\n0 0 3 3 5\n0 0 3 2 0\n0 0 3 2 5\n",
+    );
+}
