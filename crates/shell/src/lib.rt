@@ -20,14 +20,22 @@ pub struct Shell {
 // One byte more than a line may have: it is then too long, however long.
 pub const LINE_HELD: usize = LINE_MOST + 1;
 
+// Before the first byte of a line.
+fn at_line_start(state: State, used: usize) -> Shell
+    ensures { λ r. ⌜ r ≡ record { state = state; held = 0; used = used } ⌝ }
+{
+    Shell {
+        state: state,
+        held: 0,
+        used: used,
+    }
+}
+
+// "Before the first good `f` the state is all zero".
 pub fn begin() -> Shell
     ensures { λ r. ⌜ r ≡ record { state = zeroState; held = 0; used = 0 } ⌝ }
 {
-    Shell {
-        state: state::zero(),
-        held: 0,
-        used: 0,
-    }
+    at_line_start(state::zero(), 0)
 }
 
 fn hold(x: u8, h: Shell, line: &mut [u8]) -> Shell
@@ -61,11 +69,7 @@ fn end_line(h: Shell, line: &[u8], memory: &mut [u8], out: &mut [u8]) -> Shell
     let t = respond(commands::parse(&line[..held]), s, memory);
     let state = t.state;
     let reply = t.reply;
-    Shell {
-        state: state,
-        held: 0,
-        used: replies::put_reply(out, h.used, reply),
-    }
+    at_line_start(state, replies::put_reply(out, h.used, reply))
 }
 
 fn take_byte(x: u8, h: Shell, line: &mut [u8], memory: &mut [u8], out: &mut [u8]) -> Shell

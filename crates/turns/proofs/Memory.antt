@@ -14,8 +14,8 @@ use Rattle.protocol.specs.declared.State.{State}
 use Rattle.protocol.specs.Geometry.{areaSize, blockSize}
 use Rattle.protocol.specs.Calls.{formatOutcome}
 use Rattle.protocol.specs.History.{Cabinet, perform}
-use Rattle.turns.proofs.FirstByte.{first-byte}
 use Rattle.turns.specs.Turns.{replyTo, keptState, formatTurn, callTurn}
+use Rattle.turns.proofs.FirstByte.{first-byte}
 
 module _ (size : ℕ) (memory : List ℕ) where
   abbrev pub Lent : ℕ → Type 0

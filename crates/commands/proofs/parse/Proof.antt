@@ -1,7 +1,8 @@
-use Rattle.commands.specs.Commands.{commandOf}
+-- `commands::parse` meets its contract. Assumes nothing.
 use borrow.Author.Tests.{lt-ltb, le-ltb}
-use Rattle.commands.proofs.WordsFound.{pass-speaks}
 use borrow.Author.Needs.{needs}
+use Rattle.commands.specs.Commands.{commandOf}
+use Rattle.commands.proofs.WordsFound.{pass-speaks}
 use Rattle.commands.proofs.parse.Statement.{statement}
 use Rattle.commands.proofs.parse.Tie as tie
 

@@ -1,5 +1,6 @@
-use native.Mathlib.Omega.{arith}
+-- `console::speak` meets its contract. Assumes nothing.
 use mathlib.Core.Path.{sym}
+use native.Mathlib.Omega.{arith}
 use lib.Seq.{length-take-le}
 use borrow.Author.Needs.{needs}
 use Rattle.console.proofs.speak.Statement.{statement}

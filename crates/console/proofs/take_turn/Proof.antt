@@ -1,3 +1,4 @@
+-- `console::take_turn` meets its contract. Assumes nothing.
 use native.Mathlib.Omega.{arith}
 use borrow.Author.Needs.{needs}
 use Rattle.console.proofs.take_turn.Statement.{statement}

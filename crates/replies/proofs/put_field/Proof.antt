@@ -1,11 +1,12 @@
+-- `replies::put_field` meets its contract. Assumes nothing.
 use mathlib.Core.Path.{refl}
 use mathlib.Core.List.{[], _∷_}
-use Rattle.decimal.specs.Numerals.{numeral}
-use Rattle.label.proofs.Splicing.{splice-one, stored-after}
 use native.Mathlib.Omega.{arith}
-use Rattle.replies.specs.Replies.{field}
-use Rattle.decimal.proofs.Numerals.{short}
 use borrow.Author.Needs.{needs}
+use Rattle.label.proofs.Splicing.{splice-one, stored-after}
+use Rattle.decimal.specs.Numerals.{numeral}
+use Rattle.decimal.proofs.Numerals.{short}
+use Rattle.replies.specs.Replies.{field}
 use Rattle.replies.proofs.put_field.Statement.{statement}
 use Rattle.replies.proofs.put_field.Tie as tie
 

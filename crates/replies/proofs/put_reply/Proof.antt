@@ -1,12 +1,11 @@
-use mathlib.Core.List.{_++_}
+-- `replies::put_reply` meets its contract. Assumes nothing.
+use mathlib.Core.List.{_++_, append-assoc}
 use Prim.Native.Nat.{_≤_}
-use lib.ListN.{length}
-use Rattle.label.proofs.Splicing.{stored-after}
-use mathlib.Core.List.{append-assoc}
-use Rattle.replies.specs.Replies.{replyLine}
 use native.Mathlib.Omega.{arith}
-use Rattle.replies.specs.Replies.{field}
+use lib.ListN.{length}
 use borrow.Author.Needs.{needs}
+use Rattle.label.proofs.Splicing.{stored-after}
+use Rattle.replies.specs.Replies.{replyLine, field}
 use Rattle.replies.proofs.put_reply.Statement.{statement}
 use Rattle.replies.proofs.put_reply.Tie as tie
 

@@ -1,6 +1,6 @@
-use mathlib.Core.Path.{refl}
+-- `shell::end_line` meets its contract. Assumes nothing.
+use mathlib.Core.Path.{sym, refl}
 use lib.Seq.{length-take-le}
-use mathlib.Core.Path.{sym}
 use borrow.Author.Needs.{needs}
 use Rattle.shell.proofs.end_line.Statement.{statement}
 use Rattle.shell.proofs.end_line.Tie as tie
@@ -17,6 +17,9 @@ respond-requires c κs = search needs
 put-reply-requires : tie.Need-put-reply-requires
 put-reply-requires c κs = search needs
 
+at-line-start-requires : tie.Need-at-line-start-requires
+at-line-start-requires c κs = search needs
+
 same-length : tie.Need-same-length
 same-length c = search needs
 
@@ -25,9 +28,9 @@ same-length-2 c = search needs
 
 returns : tie.Need-returns
 returns c =
-    let turn = rw (c .before .before .before .before .before .before .before .before .before .before .parse .ensures) at (c .before .before .before .before .before .before .before .before .respond .ensures) in
-    let put = c .before .before .put-reply .ensures in
-    rw (← turn) (refl, (put .0, (put .1, refl)))
+    let turn = rw (c .before .before .before .before .before .before .before .before .before .before .before .parse .ensures) at (c .before .before .before .before .before .before .before .before .before .respond .ensures) in
+    let put = c .before .before .before .put-reply .ensures in
+    rw (c .at-line-start .ensures, ← turn) (refl, (put .0, (put .1, refl)))
 
 pub end-line-spec : {M : Type 1} → statement M
 end-line-spec =
@@ -37,6 +40,7 @@ end-line-spec =
     parse-requires
     respond-requires
     put-reply-requires
+    at-line-start-requires
     same-length
     same-length-2
     returns)

@@ -1,13 +1,12 @@
-use mathlib.Core.Path.{refl}
-use Rattle.shell.specs.Dialogue.{closed}
-use lib.Seq.{length-take-le}
-use mathlib.Core.Path.{sym}
+-- `shell::finish` meets its contract. Assumes nothing.
+use mathlib.Core.Path.{refl, sym}
 use native.Mathlib.Nat.{add-zero}
-use Rattle.label.proofs.Splicing.{splice-nothing}
 use native.Mathlib.Omega.{arith}
+use lib.Seq.{length-take-le}
 use borrow.Author.Tests.{ne-eqb}
-use Rattle.shell.specs.Dialogue.{last}
 use borrow.Author.Needs.{needs}
+use Rattle.label.proofs.Splicing.{splice-nothing}
+use Rattle.shell.specs.Dialogue.{closed, last}
 use Rattle.shell.proofs.finish.Statement.{statement}
 use Rattle.shell.proofs.finish.Tie as tie
 

@@ -1,7 +1,8 @@
-use native.Mathlib.Omega.{arith}
+-- `shell::hold` meets its contract. Assumes nothing.
 use mathlib.Core.Path.{refl}
-use Rattle.shell.proofs.Dialogue.{held-next, held-full}
+use native.Mathlib.Omega.{arith}
 use borrow.Author.Needs.{needs}
+use Rattle.shell.proofs.Dialogue.{held-next, held-full}
 use Rattle.shell.proofs.hold.Statement.{statement}
 use Rattle.shell.proofs.hold.Tie as tie
 

@@ -1,14 +1,15 @@
-use native.Mathlib.Nat.{add-zero}
+-- `shell::serve` meets its contract. Assumes nothing.
 use mathlib.Core.Path.{_≡_, refl, sym}
 use Prim.Native.Nat.{_+_, _*_, _-_, _≤_, _<_}
+use native.Mathlib.Nat.{add-zero}
 use native.Mathlib.Omega.{arith}
 use lib.ListN.{length, take}
 use lib.Seq.{take-all}
+use borrow.Author.Needs.{needs}
 use Rattle.label.specs.Writing.{splice}
 use Rattle.label.proofs.Splicing.{splice-nothing, stored-after}
 use Rattle.shell.specs.Dialogue.{after, says, dialogue}
 use Rattle.shell.proofs.Dialogue.{after-next, says-next}
-use borrow.Author.Needs.{needs}
 use Rattle.shell.proofs.serve.Statement.{statement}
 use Rattle.shell.proofs.serve.Tie as tie
 

@@ -1,10 +1,11 @@
+-- `shell::take_byte` meets its contract. Assumes nothing.
 use mathlib.Core.Path.{sym, _∙_}
 use native.Mathlib.Nat.{add-zero}
-use Rattle.label.proofs.Splicing.{splice-nothing}
-use borrow.Author.Tests.{ne-eqb}
-use Rattle.shell.specs.Dialogue.{next, printed}
 use native.Mathlib.Omega.{arith}
+use borrow.Author.Tests.{ne-eqb}
 use borrow.Author.Needs.{needs}
+use Rattle.label.proofs.Splicing.{splice-nothing}
+use Rattle.shell.specs.Dialogue.{next, printed}
 use Rattle.shell.proofs.take_byte.Statement.{statement}
 use Rattle.shell.proofs.take_byte.Tie as tie
 

@@ -1,6 +1,7 @@
-use native.Mathlib.Omega.{arith}
-use native.Mathlib.Nat.{mul-le-mul}
+-- `turns::area_end` meets its contract. Assumes nothing.
 use Prim.Native.Nat.{_≤_}
+use native.Mathlib.Nat.{mul-le-mul}
+use native.Mathlib.Omega.{arith}
 use Rattle.protocol.specs.Geometry.{areaSize}
 use Rattle.turns.proofs.area_end.Statement.{statement}
 use Rattle.turns.proofs.area_end.Tie as tie

@@ -1,6 +1,7 @@
+-- `turns::format` meets its contract. Assumes nothing.
 use mathlib.Core.List.{[]}
-use Rattle.turns.proofs.Memory.{lent-length, format-leaves}
 use borrow.Author.Needs.{needs}
+use Rattle.turns.proofs.Memory.{lent-length, format-leaves}
 use Rattle.turns.proofs.format.Statement.{statement}
 use Rattle.turns.proofs.format.Tie as tie
 

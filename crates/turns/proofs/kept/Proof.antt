@@ -1,5 +1,6 @@
-use Rattle.turns.specs.Turns.{keptState}
+-- `turns::kept` meets its contract. Assumes nothing.
 use borrow.Author.Tests.{ne-eqb}
+use Rattle.turns.specs.Turns.{keptState}
 use Rattle.turns.proofs.kept.Statement.{statement}
 use Rattle.turns.proofs.kept.Tie as tie
 

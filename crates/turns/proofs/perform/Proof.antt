@@ -1,5 +1,6 @@
-use Rattle.turns.proofs.Memory.{lent-length, call-leaves}
+-- `turns::perform` meets its contract. Assumes nothing.
 use borrow.Author.Needs.{needs}
+use Rattle.turns.proofs.Memory.{lent-length, call-leaves}
 use Rattle.turns.proofs.perform.Statement.{statement}
 use Rattle.turns.proofs.perform.Tie as tie
 

@@ -1,5 +1,6 @@
-use Rattle.turns.specs.Turns.{replyTo}
+-- `turns::reply_to` meets its contract. Assumes nothing.
 use borrow.Author.Needs.{needs}
+use Rattle.turns.specs.Turns.{replyTo}
 use Rattle.turns.proofs.reply_to.Statement.{statement}
 use Rattle.turns.proofs.reply_to.Tie as tie
 

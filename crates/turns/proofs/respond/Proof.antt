@@ -1,5 +1,6 @@
-use Rattle.turns.specs.Turns.{respond}
+-- `turns::respond` meets its contract. Assumes nothing.
 use borrow.Author.Needs.{needs}
+use Rattle.turns.specs.Turns.{respond}
 use Rattle.turns.proofs.respond.Statement.{statement}
 use Rattle.turns.proofs.respond.Tie as tie
 

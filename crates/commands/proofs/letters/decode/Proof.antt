@@ -1,7 +1,7 @@
-use borrow.Author.Tests.{not-true, not-false}
-use borrow.Author.Tests.{ne-eqb}
-use Rattle.commands.specs.Scanning.{decoded}
+-- `commands::letters::decode` meets its contract. Assumes nothing.
+use borrow.Author.Tests.{not-true, not-false, ne-eqb}
 use borrow.Author.Needs.{needs}
+use Rattle.commands.specs.Scanning.{decoded}
 use Rattle.commands.proofs.letters.decode.Statement.{statement}
 use Rattle.commands.proofs.letters.decode.Tie as tie
 

@@ -1,6 +1,7 @@
+-- `commands::letters::with_none` meets its contract. Assumes nothing.
 use borrow.Author.Tests.{ne-eqb}
-use Rattle.commands.specs.Commands.{meant}
 use borrow.Author.Needs.{needs}
+use Rattle.commands.specs.Commands.{meant}
 use Rattle.commands.proofs.letters.with_none.Statement.{statement}
 use Rattle.commands.proofs.letters.with_none.Tie as tie
 

@@ -1,6 +1,7 @@
-use Rattle.commands.specs.Commands.{meant}
+-- `commands::letters::with_three` meets its contract. Assumes nothing.
 use borrow.Author.Tests.{ne-eqb, le-leb, lt-leb}
 use borrow.Author.Needs.{needs}
+use Rattle.commands.specs.Commands.{meant}
 use Rattle.commands.proofs.letters.with_three.Statement.{statement}
 use Rattle.commands.proofs.letters.with_three.Tie as tie
 

@@ -1,3 +1,4 @@
+-- `commands::scanner::begin` meets its contract. Assumes nothing.
 use Rattle.commands.specs.Scanning.{begun}
 use Rattle.commands.proofs.scanner.begin.Statement.{statement}
 use Rattle.commands.proofs.scanner.begin.Tie as tie

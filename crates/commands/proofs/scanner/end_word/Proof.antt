@@ -1,5 +1,6 @@
-use Rattle.commands.specs.Scanning.{wordEnded}
+-- `commands::scanner::end_word` meets its contract. Assumes nothing.
 use borrow.Author.Needs.{needs}
+use Rattle.commands.specs.Scanning.{wordEnded}
 use Rattle.commands.proofs.scanner.end_word.Statement.{statement}
 use Rattle.commands.proofs.scanner.end_word.Tie as tie
 

@@ -1,3 +1,4 @@
+-- `commands::scanner::fits` meets its contract. Assumes nothing.
 use borrow.Author.Tests.{ne-eqb}
 use Rattle.commands.specs.Scanning.{fits}
 use Rattle.commands.proofs.scanner.fits.Statement.{statement}

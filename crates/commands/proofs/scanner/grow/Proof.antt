@@ -1,6 +1,7 @@
-use Rattle.commands.specs.Scanning.{grown}
+-- `commands::scanner::grow` meets its contract. Assumes nothing.
 use borrow.Author.Tests.{lt-ltb, le-ltb}
 use borrow.Author.Needs.{needs}
+use Rattle.commands.specs.Scanning.{grown}
 use Rattle.commands.proofs.scanner.grow.Statement.{statement}
 use Rattle.commands.proofs.scanner.grow.Tie as tie
 

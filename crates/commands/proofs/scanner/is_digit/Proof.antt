@@ -1,3 +1,4 @@
+-- `commands::scanner::is_digit` meets its contract. Assumes nothing.
 use Rattle.decimal.specs.Numerals.{digit}
 use Rattle.commands.proofs.scanner.is_digit.Statement.{statement}
 use Rattle.commands.proofs.scanner.is_digit.Tie as tie

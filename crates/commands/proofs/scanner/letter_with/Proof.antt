@@ -1,5 +1,6 @@
-use Rattle.commands.specs.Scanning.{letterWith}
+-- `commands::scanner::letter_with` meets its contract. Assumes nothing.
 use borrow.Author.Tests.{ne-eqb}
+use Rattle.commands.specs.Scanning.{letterWith}
 use Rattle.commands.proofs.scanner.letter_with.Statement.{statement}
 use Rattle.commands.proofs.scanner.letter_with.Tie as tie
 

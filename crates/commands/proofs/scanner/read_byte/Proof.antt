@@ -1,5 +1,6 @@
-use Rattle.commands.specs.Scanning.{byteRead}
+-- `commands::scanner::read_byte` meets its contract. Assumes nothing.
 use borrow.Author.Needs.{needs}
+use Rattle.commands.specs.Scanning.{byteRead}
 use Rattle.commands.proofs.scanner.read_byte.Statement.{statement}
 use Rattle.commands.proofs.scanner.read_byte.Tie as tie
 

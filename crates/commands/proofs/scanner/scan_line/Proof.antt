@@ -1,4 +1,4 @@
-use Rattle.commands.proofs.OnePass.{first-turn, next-turn, few-turns}
+-- `commands::scanner::scan_line` meets its contract. Assumes nothing.
 use mathlib.Core.Path.{_≡_, _∙_}
 use Prim.Native.Nat.{_-_, _≤_}
 use native.Mathlib.Omega.{arith}
@@ -6,6 +6,7 @@ use lib.ListN.{length, take}
 use lib.Seq.{take-all}
 use borrow.Author.Needs.{needs}
 use Rattle.commands.specs.Scanning.{begun, scanned}
+use Rattle.commands.proofs.OnePass.{first-turn, next-turn, few-turns}
 use Rattle.commands.proofs.scanner.scan_line.Statement.{statement}
 use Rattle.commands.proofs.scanner.scan_line.Tie as tie
 

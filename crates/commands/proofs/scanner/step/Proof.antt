@@ -1,6 +1,7 @@
+-- `commands::scanner::step` meets its contract. Assumes nothing.
 use borrow.Author.Tests.{ne-eqb}
-use Rattle.commands.specs.Scanning.{stepped}
 use borrow.Author.Needs.{needs}
+use Rattle.commands.specs.Scanning.{stepped}
 use Rattle.commands.proofs.scanner.step.Statement.{statement}
 use Rattle.commands.proofs.scanner.step.Tie as tie
 

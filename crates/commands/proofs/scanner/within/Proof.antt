@@ -1,6 +1,7 @@
+-- `commands::scanner::within` meets its contract. Assumes nothing.
 use borrow.Author.Tests.{lt-ltb, le-ltb}
-use Rattle.commands.specs.Scanning.{within}
 use borrow.Author.Needs.{needs}
+use Rattle.commands.specs.Scanning.{within}
 use Rattle.commands.proofs.scanner.within.Statement.{statement}
 use Rattle.commands.proofs.scanner.within.Tie as tie
 
