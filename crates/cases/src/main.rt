@@ -8,42 +8,38 @@ mod running;
 mod states;
 mod table;
 
-use table::Line;
+use libc::STDIN_FILENO;
 use table::MOST_NUMBERS;
+use table::PLACES;
 
-fn feed(block: &[u8], start: Line, numbers: &mut [u16; MOST_NUMBERS]) -> Line
-    requires { do ⌜ start .count ≤ (← ⟦MOST_NUMBERS⟧) ⌝ }
-    ensures { λ r. do ⌜ r .count ≤ (← ⟦MOST_NUMBERS⟧ .entry) ⌝ }
+fn feed(block: &[u8], start: usize, numbers: &mut [usize; PLACES]) -> usize
+    requires { do ⌜ start ≤ (← ⟦MOST_NUMBERS⟧) ⌝ }
+    ensures { λ r. do ⌜ r ≤ (← ⟦MOST_NUMBERS⟧ .entry) ⌝ }
 {
-    let mut line = start;
+    let mut place = start;
     let mut i = 0;
     while i < block.len() {
-        line = table::take(block[i], line, numbers);
+        place = table::take(block[i], place, numbers);
         i += 1;
     }
-    line
+    place
 }
 
-// What is left of the input is read, a block at a time.
-fn run(numbers: &mut [u16; MOST_NUMBERS], buffer: &mut [u8]) {
-    let mut line = Line {
-        count: 0,
-        number: 0,
-    };
+fn run(numbers: &mut [usize; PLACES], buffer: &mut [u8]) {
+    let mut place = 0;
     let mut more = true;
     // a loop needs a bound; no input has as many blocks
     let mut turns = u64::MAX;
     while turns > 0 && more {
-        let got = libc::read(0, buffer);
-        let n = io::count(got, buffer);
-        line = feed(&buffer[0..n], line, numbers);
+        let n = io::read_full(STDIN_FILENO, buffer);
+        place = feed(&buffer[0..n], place, numbers);
         more = 0 < n;
         turns -= 1;
     }
 }
 
 fn main() {
-    let mut numbers = [0u16; MOST_NUMBERS];
+    let mut numbers = [0usize; PLACES];
     let mut buffer = io::large_buffer();
     run(&mut numbers, &mut buffer);
 }

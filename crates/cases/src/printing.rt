@@ -1,61 +1,91 @@
-// Rows of numbers, printed.
-ghost use mathlib.Core.Path.{_≡_};
-ghost use Prim.Native.Nat.{_+_, _≤_};
-ghost use lib.ListN.{length};
+// Numbers on standard output, a space between.
+ghost use Prim.Native.Nat.{_≤_};
 use decimal::put;
+use label::Label;
 use libc::STDOUT_FILENO;
+use protocol::Answer;
+use protocol::Power;
+use sets::DISKS;
 
-// an answer and the bytes of 60 slots are 91 numbers
-pub const ROW_SIZE: usize = 128;
-
-// five digits a number, and what stands behind it
-const LINE_SIZE: usize = 768;
-
-// The bytes, as numbers from a place in the row on. Gives the place behind them.
-pub fn put_bytes(bytes: &[u8], row: &mut [u16; ROW_SIZE], at: usize) -> usize
-    requires { do ⌜ at + length (now bytes) ≤ (← ⟦ROW_SIZE⟧) ⌝ }
-    ensures { λ r. do ⌜ r ≤ (← ⟦ROW_SIZE⟧ .entry) ⌝ }
+// The number behind a space, or without it.
+fn print_from(n: u16, from: usize)
+    requires { ⌜ from ≤ 1 ⌝ }
 {
+    let mut text = [b' '; 6];
+    let end = put(&mut text, 1, n);
+    io::write_all(STDOUT_FILENO, &text[from..end]);
+}
+
+// Every line starts with a refusal.
+pub fn print_first(refusal: u8) {
+    print_from(refusal as u16, 1);
+}
+
+// What a call yields is below 65,536.
+pub fn print(n: usize) {
+    print_from((n % 65536) as u16, 0);
+}
+
+fn print_byte(x: u8) {
+    print_from(x as u16, 0);
+}
+
+pub fn print_bytes(bytes: &[u8]) {
     let mut i = 0;
     while i < bytes.len() {
-        row[at + i] = bytes[i] as u16;
+        print_byte(bytes[i]);
         i += 1;
     }
-    at + i
 }
 
-// The number as text, and a space. Gives the place behind it.
-fn put_number(line: &mut [u8], at: usize, n: u16) -> usize
-    requires { ⌜ at + 6 ≤ length (now line) ⌝ }
-    ensures { λ r. ⌜ r ≤ at + 6 ⌝ }
-{
-    let end = put(line, at, n);
-    line[end] = b' ';
-    end + 1
-}
-
-// The first n numbers of a row. Gives the text's length.
-fn put_row(row: &[u16; ROW_SIZE], n: usize, line: &mut [u8]) -> usize
-    requires { do ⌜ (n ≤ (← ⟦ROW_SIZE⟧)) × (length (now line) ≡ (← ⟦LINE_SIZE⟧)) ⌝ }
-    ensures { λ r. do ⌜ r ≤ (← ⟦LINE_SIZE⟧ .entry) ⌝ }
-{
-    let mut at = 0;
+// A number in place of a long buffer.
+pub fn print_sum(bytes: &[u8]) {
+    let mut s = 1;
     let mut i = 0;
-    while i < n {
-        at = put_number(line, at, row[i]);
+    while i < bytes.len() {
+        s = (s * 31 + bytes[i] as usize) % 65521;
         i += 1;
     }
-    at
+    print(s);
 }
 
-// Writes a row as a line; an empty one not at all.
-pub fn print(row: &[u16; ROW_SIZE], n: usize)
-    requires { do ⌜ n ≤ (← ⟦ROW_SIZE⟧) ⌝ }
-{
-    let mut line = [0u8; LINE_SIZE];
-    let size = put_row(row, n, &mut line);
-    if 0 < size {
-        line[size - 1] = b'\n';
-        io::write_all(STDOUT_FILENO, &line[0..size]);
+pub fn print_label(label: Label) {
+    print_byte(label.committed);
+    print_byte(label.tentative);
+    print_byte(label.dirty);
+}
+
+fn print_labels(labels: [Label; DISKS]) {
+    let mut d = 0;
+    while d < DISKS {
+        print_label(labels[d]);
+        d += 1;
     }
+}
+
+fn print_power(power: Power) {
+    match power {
+        Power::Stopped => {
+            print_byte(0);
+            print_byte(0);
+        }
+        Power::Running(current) => {
+            print_byte(1);
+            print_byte(current);
+        }
+    }
+}
+
+// "refusal, stores, STATE"
+pub fn print_answer(answer: Answer) {
+    let state = answer.state;
+    print_first(answer.refusal);
+    print_from(answer.stores, 0);
+    print_byte(state.disks);
+    print_byte(state.blocks);
+    print_byte(state.online);
+    let power = state.power;
+    print_power(power);
+    let labels = state.labels;
+    print_labels(labels);
 }

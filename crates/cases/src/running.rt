@@ -1,179 +1,110 @@
-// What each kind of case runs. A case puts what it yields into a row of numbers, and gives their count.
-ghost use Prim.Native.Nat.{_≤_};
-ghost use lib.ListN.{length};
+// What each kind of case runs, on a buffer as long as its line asks. Each prints what it yields.
 use crate::buffers::AREA_SIZE;
 use crate::buffers::BLOCKS_SIZE;
+use crate::buffers::DATA;
 use crate::buffers::UNTOUCHED;
-use crate::buffers::fill_area;
-use crate::buffers::fill_data;
-use crate::buffers::size;
-use crate::buffers::sum;
-use crate::buffers::take_bytes;
-use crate::printing::ROW_SIZE;
+use crate::buffers::fill;
+use crate::buffers::least;
 use crate::printing::print;
-use crate::printing::put_bytes;
-use crate::states::ANSWER_SIZE;
+use crate::printing::print_answer;
+use crate::printing::print_bytes;
+use crate::printing::print_first;
+use crate::printing::print_label;
+use crate::printing::print_sum;
 use crate::states::byte;
 use crate::states::call;
 use crate::states::label;
-use crate::states::put_answer;
 use crate::states::state;
-use crate::states::wide;
-use crate::states::word;
-use crate::table::MOST_NUMBERS;
-
-const SLOTS_SIZE: usize = 60;
-
-const LABEL_SIZE: usize = 16;
+use crate::table::PLACES;
+use libc::STDOUT_FILENO;
+use protocol::Answer;
 
 // "1 BYTES..": label reading
-fn read_label(numbers: &[u16; MOST_NUMBERS], count: usize, row: &mut [u16; ROW_SIZE]) -> usize
-    requires { do ⌜ count ≤ (← ⟦MOST_NUMBERS⟧) ⌝ }
-    ensures { λ r. do ⌜ r ≤ (← ⟦ROW_SIZE⟧ .entry) ⌝ }
-{
-    let mut bytes = [0u8; MOST_NUMBERS];
-    let n = take_bytes(numbers, 1, count, &mut bytes);
-    let found = label::read(&bytes[0..n]);
-    row[0] = found.refusal as u16;
-    row[1] = word(found.number);
-    row[2] = word(found.disks);
-    row[3] = found.label.committed as u16;
-    row[4] = found.label.tentative as u16;
-    row[5] = found.label.dirty as u16;
-    row[6] = word(found.length);
-    7
+fn read_label(bytes: &[u8]) {
+    let found = label::read(bytes);
+    print_first(found.refusal);
+    print(found.number);
+    print(found.disks);
+    let label = found.label;
+    print_label(label);
+    print(found.length);
 }
 
 // "2 d n C T D m": label writing
-fn write_label_to(
-    numbers: &[u16; MOST_NUMBERS],
-    bytes: &mut [u8],
-    row: &mut [u16; ROW_SIZE],
-) -> usize
-    requires { do ⌜ length (now bytes) ≤ (← ⟦LABEL_SIZE⟧) ⌝ }
-    ensures { λ r. do ⌜ r ≤ (← ⟦ROW_SIZE⟧ .entry) ⌝ }
-{
-    let number = wide(numbers[1]);
-    let disks = wide(numbers[2]);
-    let written = label::write(bytes, number, disks, label(numbers, 3));
-    row[0] = written.refusal as u16;
-    row[1] = word(written.length);
-    put_bytes(bytes, row, 2)
-}
-
-fn write_label(numbers: &[u16; MOST_NUMBERS], row: &mut [u16; ROW_SIZE]) -> usize
-    ensures { λ r. do ⌜ r ≤ (← ⟦ROW_SIZE⟧ .entry) ⌝ }
-{
-    let mut bytes = [UNTOUCHED; LABEL_SIZE];
-    let m = size(numbers[6], LABEL_SIZE);
-    write_label_to(numbers, &mut bytes[0..m], row)
+fn write_label(numbers: &[usize; PLACES], bytes: &mut [u8]) {
+    let written = label::write(bytes, numbers[1], numbers[2], label(numbers, 3));
+    print_first(written.refusal);
+    print(written.length);
+    print_bytes(bytes);
 }
 
 // "3 STATE m": save
-fn save_to(numbers: &[u16; MOST_NUMBERS], slots: &mut [u8], row: &mut [u16; ROW_SIZE]) -> usize
-    requires { do ⌜ length (now slots) ≤ (← ⟦SLOTS_SIZE⟧) ⌝ }
-    ensures { λ r. do ⌜ r ≤ (← ⟦ROW_SIZE⟧ .entry) ⌝ }
-{
-    let answer = cabinet::save(state(numbers), slots);
-    put_answer(answer, row);
-    put_bytes(slots, row, ANSWER_SIZE)
-}
-
-fn save(numbers: &[u16; MOST_NUMBERS], row: &mut [u16; ROW_SIZE]) -> usize
-    ensures { λ r. do ⌜ r ≤ (← ⟦ROW_SIZE⟧ .entry) ⌝ }
-{
-    let mut slots = [UNTOUCHED; SLOTS_SIZE];
-    let m = size(numbers[30], SLOTS_SIZE);
-    save_to(numbers, &mut slots[0..m], row)
+fn save(numbers: &[usize; PLACES], slots: &mut [u8]) {
+    print_answer(cabinet::save(state(numbers), slots));
+    print_bytes(slots);
 }
 
 // "4 n b R BYTES..": assemble
-fn assemble(numbers: &[u16; MOST_NUMBERS], count: usize, row: &mut [u16; ROW_SIZE]) -> usize
-    requires { do ⌜ count ≤ (← ⟦MOST_NUMBERS⟧) ⌝ }
-    ensures { λ r. do ⌜ r ≤ (← ⟦ROW_SIZE⟧ .entry) ⌝ }
-{
-    let mut slots = [0u8; MOST_NUMBERS];
-    let n = take_bytes(numbers, 4, count, &mut slots);
+fn assemble(numbers: &[usize; PLACES], slots: &[u8]) {
     let online = byte(numbers, 3);
-    let answer = cabinet::assemble(wide(numbers[1]), wide(numbers[2]), online, &slots[0..n]);
-    put_answer(answer, row);
-    ANSWER_SIZE
+    print_answer(cabinet::assemble(numbers[1], numbers[2], online, slots));
 }
 
 // "5 n b m": fresh
-fn format_on(numbers: &[u16; MOST_NUMBERS], area: &mut [u8], row: &mut [u16; ROW_SIZE]) {
-    fill_area(area);
-    let answer = cabinet::format(wide(numbers[1]), wide(numbers[2]), area);
-    put_answer(answer, row);
-    row[ANSWER_SIZE] = sum(area);
-}
-
-fn format(numbers: &[u16; MOST_NUMBERS], row: &mut [u16; ROW_SIZE]) -> usize
-    ensures { λ r. do ⌜ r ≤ (← ⟦ROW_SIZE⟧ .entry) ⌝ }
-{
-    let mut area = [0u8; AREA_SIZE];
-    let m = size(numbers[3], AREA_SIZE);
-    format_on(numbers, &mut area[0..m], row);
-    ANSWER_SIZE + 1
+fn format(numbers: &[usize; PLACES], area: &mut [u8]) {
+    print_answer(cabinet::format(numbers[1], numbers[2], area));
+    print_sum(area);
 }
 
 // "6 STATE m call k p d o": a call
-fn apply_on(
-    numbers: &[u16; MOST_NUMBERS],
-    area: &mut [u8],
-    bytes: &mut [u8],
-    output: &mut [u8],
-    row: &mut [u16; ROW_SIZE],
-)
-    requires { do ⌜ length (now bytes) ≤ (← ⟦BLOCKS_SIZE⟧) ⌝ }
-{
-    fill_area(area);
-    fill_data(bytes);
-    let answer = cabinet::apply(call(numbers), state(numbers), area, bytes, output);
-    put_answer(answer, row);
-    row[ANSWER_SIZE] = sum(area);
-    row[ANSWER_SIZE + 1] = sum(output);
+fn applied(numbers: &[usize; PLACES], area: &mut [u8], bytes: &[u8], output: &mut [u8]) -> Answer {
+    cabinet::apply(call(numbers), state(numbers), area, bytes, output)
 }
 
-fn apply(numbers: &[u16; MOST_NUMBERS], row: &mut [u16; ROW_SIZE]) -> usize
-    ensures { λ r. do ⌜ r ≤ (← ⟦ROW_SIZE⟧ .entry) ⌝ }
-{
-    let mut area = [0u8; AREA_SIZE];
+fn apply_on(numbers: &[usize; PLACES], area: &mut [u8], bytes: &[u8], output: &mut [u8]) {
+    print_answer(applied(numbers, area, bytes, output));
+    print_sum(area);
+    print_sum(output);
+}
+
+fn apply(numbers: &[usize; PLACES], area: &mut [u8]) {
     let mut bytes = [0u8; BLOCKS_SIZE];
     let mut output = [UNTOUCHED; BLOCKS_SIZE];
-    let m = size(numbers[30], AREA_SIZE);
-    let d = size(numbers[34], BLOCKS_SIZE);
-    let o = size(numbers[35], BLOCKS_SIZE);
-    apply_on(
-        numbers,
-        &mut area[0..m],
-        &mut bytes[0..d],
-        &mut output[0..o],
-        row,
-    );
-    ANSWER_SIZE + 2
+    let d = least(numbers[34], BLOCKS_SIZE);
+    let o = least(numbers[35], BLOCKS_SIZE);
+    fill(DATA, numbers, &mut bytes);
+    apply_on(numbers, area, &bytes[0..d], &mut output[0..o]);
 }
 
-fn answer(numbers: &[u16; MOST_NUMBERS], count: usize, row: &mut [u16; ROW_SIZE]) -> usize
-    requires { do ⌜ count ≤ (← ⟦MOST_NUMBERS⟧) ⌝ }
-    ensures { λ r. do ⌜ r ≤ (← ⟦ROW_SIZE⟧ .entry) ⌝ }
-{
+// How many bytes the buffer has: those that the line lists, or as many as it says. Its last number is at a place.
+fn asked(numbers: &[usize; PLACES], last: usize) -> usize {
     let kind = numbers[0];
     match kind {
-        1 => read_label(numbers, count, row),
-        2 => write_label(numbers, row),
-        3 => save(numbers, row),
-        4 => assemble(numbers, count, row),
-        5 => format(numbers, row),
-        6 => apply(numbers, row),
-        _ => 0,
+        1 => last,
+        2 => numbers[6],
+        4 => last - least(last, 3),
+        5 => numbers[3],
+        _ => numbers[30],
     }
 }
 
-pub fn run(numbers: &[u16; MOST_NUMBERS], count: usize)
-    requires { do ⌜ count ≤ (← ⟦MOST_NUMBERS⟧) ⌝ }
-{
-    let mut row = [0u16; ROW_SIZE];
-    let n = answer(numbers, count, &mut row);
-    print(&row, n);
+fn run_on(numbers: &[usize; PLACES], buffer: &mut [u8]) {
+    let kind = numbers[0];
+    fill(kind, numbers, buffer);
+    match kind {
+        1 => read_label(buffer),
+        2 => write_label(numbers, buffer),
+        3 => save(numbers, buffer),
+        4 => assemble(numbers, buffer),
+        5 => format(numbers, buffer),
+        _ => apply(numbers, buffer),
+    }
+}
+
+// Runs the case of a line whose last number is at a place.
+pub fn run(numbers: &[usize; PLACES], last: usize) {
+    let mut buffer = [0u8; AREA_SIZE];
+    let n = least(asked(numbers, last), AREA_SIZE);
+    run_on(numbers, &mut buffer[0..n]);
+    io::write_all(STDOUT_FILENO, b"\n");
 }

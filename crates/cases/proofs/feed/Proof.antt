@@ -1,36 +1,36 @@
 -- `cases::feed` meets its contract. Assumes nothing.
 use Prim.Native.Nat.{_-_, _≤_}
+use native.Mathlib.Omega.{arith}
 use lib.ListN.{length}
-use borrow.Author.Needs.{needs}
 use Rattle.cases.proofs.feed.Statement.{statement}
 use Rattle.cases.proofs.feed.Tie as tie
 
 abbrev Inv-loop : tie.InvT-loop
-Inv-loop block numbers₀ line₀ i₀ numbers line i = (i ≤ length block) × (line .count ≤ 64)
+Inv-loop block start numbers₀ place₀ i₀ numbers place i = (i ≤ length block) × (place ≤ 64)
 
 abbrev μ-loop : tie.MeasureT-loop
-μ-loop block numbers₀ line₀ i₀ numbers line i = length block - i
+μ-loop block start numbers₀ place₀ i₀ numbers place i = length block - i
 
 loop-holds : tie.Need-loop-holds Inv-loop μ-loop
-loop-holds c = search needs
+loop-holds c = omega arith
 
 shared-slice-read-take : tie.Need-shared-slice-read-take Inv-loop μ-loop
-shared-slice-read-take c = search needs
+shared-slice-read-take c = omega arith
 
 take-requires : tie.Need-take-requires Inv-loop μ-loop
-take-requires c κs = search needs
+take-requires c κs = omega arith
 
 add-i : tie.Need-add-i Inv-loop μ-loop
-add-i c = search needs
+add-i c = omega arith
 
 loop-less : tie.Need-loop-less Inv-loop μ-loop
-loop-less c = search needs
+loop-less c = omega arith
 
 loop-again : tie.Need-loop-again Inv-loop μ-loop
-loop-again c = search needs
+loop-again c = omega arith
 
 returns : tie.Need-returns Inv-loop μ-loop
-returns c = search needs
+returns c = omega arith
 
 pub feed-spec : {M : Type 1} → statement M
 feed-spec =
