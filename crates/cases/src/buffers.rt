@@ -22,8 +22,8 @@ pub fn least(a: usize, b: usize) -> usize
     if a < b { a } else { b }
 }
 
-// Byte i of a buffer before the case: one that the line lists, of an output, of a write's data, or of the area. The remainder
-// of i is taken first, so that nothing overflows.
+// Byte i of a buffer before the case: one that the line lists, or one of an output, of a write's data or of the area.
+// Remainders are taken first, so that nothing overflows.
 fn before(kind: usize, numbers: &[usize; PLACES], i: usize) -> u8 {
     match kind {
         1 => byte(numbers, i % PLACES + 1),

@@ -56,7 +56,7 @@ fn format(numbers: &[usize; PLACES], area: &mut [u8]) {
     print_sum(area);
 }
 
-// "6 STATE m call k p d o": a call
+// A call's answer, by itself: a function with more than it around a state is dear to check.
 fn applied(numbers: &[usize; PLACES], area: &mut [u8], bytes: &[u8], output: &mut [u8]) -> Answer {
     cabinet::apply(call(numbers), state(numbers), area, bytes, output)
 }
@@ -67,6 +67,7 @@ fn apply_on(numbers: &[usize; PLACES], area: &mut [u8], bytes: &[u8], output: &m
     print_sum(output);
 }
 
+// "6 STATE m call k p d o": a call
 fn apply(numbers: &[usize; PLACES], area: &mut [u8]) {
     let mut bytes = [0u8; BLOCKS_SIZE];
     let mut output = [UNTOUCHED; BLOCKS_SIZE];
@@ -76,7 +77,7 @@ fn apply(numbers: &[usize; PLACES], area: &mut [u8]) {
     apply_on(numbers, area, &bytes[0..d], &mut output[0..o]);
 }
 
-// How many bytes the buffer has: those that the line lists, or as many as it says. Its last number is at a place.
+// How many bytes the buffer has: those that the line lists up to its last place, or as many as it says.
 fn asked(numbers: &[usize; PLACES], last: usize) -> usize {
     let kind = numbers[0];
     match kind {
@@ -101,7 +102,7 @@ fn run_on(numbers: &[usize; PLACES], buffer: &mut [u8]) {
     }
 }
 
-// Runs the case of a line whose last number is at a place.
+// Runs the case of a line, whose numbers go up to the last place.
 pub fn run(numbers: &[usize; PLACES], last: usize) {
     let mut buffer = [0u8; AREA_SIZE];
     let n = least(asked(numbers, last), AREA_SIZE);

@@ -6,11 +6,12 @@ use protocol::Power;
 use protocol::State;
 use sets::DISKS;
 
-// A number above a byte's range is cut down; behind the last place the first follows.
+// A number above a byte's range is cut down, and a place beyond the last.
 pub fn byte(numbers: &[usize; PLACES], i: usize) -> u8 {
     (numbers[i % PLACES] % 256) as u8
 }
 
+// The place is a byte, so that none behind it overflows.
 pub fn label(numbers: &[usize; PLACES], at: u8) -> Label {
     let i = at as usize;
     Label {
