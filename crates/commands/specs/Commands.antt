@@ -76,6 +76,10 @@ spoken ([] ∷ later) = Bad
 spoken ((letter ∷ []) ∷ later) = cond (areNumbers later) (meant letter (map value later)) Bad
 spoken ((x ∷ y ∷ w) ∷ later) = Bad
 
+-- "over 32 bytes before its line feed"
+abbrev pub lineMost : ℕ
+lineMost = 32
+
 -- "Any other line, or one over 32 bytes before its line feed, gives 99 and changes nothing"
 unfoldable pub commandOf : List ℕ → Command
-commandOf line = cond (ltb 32 (length line)) Bad (spoken (words line))
+commandOf line = cond (ltb lineMost (length line)) Bad (spoken (words line))

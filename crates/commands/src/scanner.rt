@@ -3,6 +3,7 @@ ghost use mathlib.Core.Path.{_≡_};
 ghost use Prim.Native.Nat.{_-_, _≤_};
 ghost use lib.ListN.{length};
 ghost use Rattle.decimal.specs.Numerals.{digit};
+ghost use Rattle.commands.specs.Commands.{lineMost};
 ghost use Rattle.commands.specs.Scanning.{begun, grown, fits, within, wordEnded, letterWith, byteRead, stepped, scanned};
 
 // How far a line has been read: the byte that its first word has; how many words have ended, and the last three of them as numbers, the latest
@@ -82,7 +83,7 @@ fn fits(s: Scan) -> bool
 }
 
 pub fn end_word(s: Scan) -> Scan
-    requires { ⌜ s .words ≤ 32 ⌝ }
+    requires { ⌜ s .words ≤ lineMost ⌝ }
     ensures { λ r. ⌜ r ≡ wordEnded s ⌝ }
 {
     Scan {
@@ -105,7 +106,7 @@ fn letter_with(s: Scan, x: u8) -> u8
 }
 
 fn read_byte(s: Scan, x: u8) -> Scan
-    requires { ⌜ s .bytes ≤ 32 ⌝ }
+    requires { ⌜ s .bytes ≤ lineMost ⌝ }
     ensures { λ r. ⌜ r ≡ byteRead s x ⌝ }
 {
     Scan {
@@ -121,7 +122,7 @@ fn read_byte(s: Scan, x: u8) -> Scan
 }
 
 fn step(s: Scan, x: u8) -> Scan
-    requires { ⌜ (s .words ≤ 32) × (s .bytes ≤ 32) ⌝ }
+    requires { ⌜ (s .words ≤ lineMost) × (s .bytes ≤ lineMost) ⌝ }
     ensures { λ r. ⌜ r ≡ stepped s x ⌝ }
 {
     if x == b' ' {
@@ -131,9 +132,9 @@ fn step(s: Scan, x: u8) -> Scan
 }
 
 pub fn scan_line(line: &[u8]) -> Scan
-    requires { ⌜ length (now line) ≤ 32 ⌝ }
+    requires { ⌜ length (now line) ≤ lineMost ⌝ }
     ensures { λ r. ⌜ r ≡ scanned begun (now (line .entry)) ⌝ }
-    ensures { λ r. ⌜ r .words ≤ 32 ⌝ }
+    ensures { λ r. ⌜ r .words ≤ lineMost ⌝ }
 {
     let mut s = begin();
     let mut i = 0;

@@ -2,19 +2,25 @@
 ghost use mathlib.Core.Path.{_≡_};
 ghost use Prim.Native.Nat.{_*_, _≤_};
 ghost use lib.ListN.{length};
+ghost use Rattle.replies.specs.Replies.{replyMost};
+ghost use Rattle.shell.specs.Dialogue.{heldMost};
 use libc::STDIN_FILENO;
 use libc::STDOUT_FILENO;
+use protocol::geometry::BLOCK_SIZE;
+use protocol::geometry::MOST_BLOCKS;
+use replies::REPLY_MOST;
+use sets::DISKS;
 use shell::LINE_HELD;
 use shell::Shell;
 
 // The most bytes of input at a time.
 const BLOCK: usize = 4096;
 
-// Each byte of a block may end a line, and a reply has at most 30 bytes.
-const OUTPUT: usize = 122880;
+// Each byte of a block may end a line.
+const OUTPUT: usize = BLOCK * REPLY_MOST;
 
-// The largest disk area: 8 disks of 64 blocks of 64 bytes.
-const MEMORY: usize = 32768;
+// The largest disk area.
+const MEMORY: usize = DISKS * MOST_BLOCKS * BLOCK_SIZE;
 
 // What a turn leaves, and whether another is to follow.
 struct Turn {
@@ -22,47 +28,53 @@ struct Turn {
     more: bool,
 }
 
-// Writes what was said. Where that fails, nobody reads any more, and the program ends.
-fn speak(h: Shell, out: &[u8], more: bool) -> Turn
-    requires { ⌜ (h .held ≤ 33) × (h .used ≤ length (now out)) ⌝ }
-    ensures { λ r. ⌜ (r .shell .held ≤ 33) × (r .shell .used ≡ 0) ⌝ }
+// Has the shell take what a read gave. The end of the input ends a line that has begun; a read that failed does not, since
+// the line may be cut short.
+fn hear(
+    h: Shell,
+    got: isize,
+    block: &[u8],
+    line: &mut [u8],
+    memory: &mut [u8],
+    out: &mut [u8],
+) -> Shell
+    requires { ⌜ (h .held ≤ heldMost) × (h .used ≡ 0) × (length (now line) ≡ heldMost) × (length (now block) * replyMost ≤ length (now out)) × (replyMost ≤ length (now out)) ⌝ }
+    ensures { λ r. ⌜ (r .held ≤ heldMost) × (r .used ≤ length (now (out .exit))) ⌝ }
 {
-    let used = h.used;
-    let done = io::write_all(STDOUT_FILENO, &out[..used]);
-    let state = h.state;
+    if got < 0 {
+        return h;
+    }
+    if got == 0 {
+        return shell::finish(h, line, memory, out);
+    }
+    let n = io::count(got, block);
+    shell::serve(&block[..n], h, line, memory, out)
+}
+
+// One read, and the replies to what came, so that a person who types has them before the next read. Where they cannot be
+// written, nobody reads any more, and the program ends.
+fn take_turn(h: Shell, block: &mut [u8], line: &mut [u8], memory: &mut [u8], out: &mut [u8]) -> Turn
+    requires { ⌜ (h .held ≤ heldMost) × (h .used ≡ 0) × (length (now line) ≡ heldMost) × (length (now block) * replyMost ≤ length (now out)) × (replyMost ≤ length (now out)) ⌝ }
+    ensures { λ r. ⌜ (r .shell .held ≤ heldMost) × (r .shell .used ≡ 0) ⌝ }
+{
+    let got = libc::read(STDIN_FILENO, block);
+    let heard = hear(h, got, block, line, memory, out);
+    let used = heard.used;
+    let written = io::write_all(STDOUT_FILENO, &out[..used]);
+    let state = heard.state;
     Turn {
         shell: Shell {
             state: state,
-            held: h.held,
+            held: heard.held,
             used: 0,
         },
-        more: more & done,
+        more: written & (0 < got),
     }
-}
-
-// One read, and the replies to what came, so that a person who types has an answer before the next read. The end of the
-// input ends a line that has begun; a read that fails does not, since the line may be cut short.
-fn take_turn(h: Shell, block: &mut [u8], line: &mut [u8], memory: &mut [u8], out: &mut [u8]) -> Turn
-    requires { ⌜ (h .held ≤ 33) × (h .used ≡ 0) × (length (now line) ≡ 33) × (length (now block) * 30 ≤ length (now out)) × (30 ≤ length (now out)) ⌝ }
-    ensures { λ r. ⌜ (r .shell .held ≤ 33) × (r .shell .used ≡ 0) ⌝ }
-{
-    let got = libc::read(STDIN_FILENO, block);
-    if got < 0 {
-        return Turn {
-            shell: h,
-            more: false,
-        };
-    }
-    if got == 0 {
-        return speak(shell::finish(h, line, memory, out), out, false);
-    }
-    let n = io::count(got, block);
-    speak(shell::serve(&block[..n], h, line, memory, out), out, true)
 }
 
 // The number of reads only lets the proof see an end: at a read each nanosecond it would be reached in 584 years.
 fn run(block: &mut [u8], line: &mut [u8], memory: &mut [u8], out: &mut [u8])
-    requires { ⌜ (length (now line) ≡ 33) × (length (now block) * 30 ≤ length (now out)) × (30 ≤ length (now out)) ⌝ }
+    requires { ⌜ (length (now line) ≡ heldMost) × (length (now block) * replyMost ≤ length (now out)) × (replyMost ≤ length (now out)) ⌝ }
 {
     let mut h = shell::begin();
     let mut more = true;

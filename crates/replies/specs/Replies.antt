@@ -4,6 +4,10 @@ use Prim.Native.Nat.{ℕ}
 use Rattle.decimal.specs.Numerals.{numeral}
 use Rattle.replies.specs.declared.Reply.{Reply}
 
+-- five numbers of at most five digits, and a byte behind each
+abbrev pub replyMost : ℕ
+replyMost = 30
+
 -- a number and the byte that ends it
 unfoldable pub field : ℕ → ℕ → List ℕ
 field n end = numeral n ++ (end ∷ [])

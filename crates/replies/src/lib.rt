@@ -5,7 +5,7 @@ ghost use Prim.Native.Nat.{_+_, _≤_};
 ghost use lib.ListN.{length};
 ghost use Rattle.label.specs.Writing.{splice};
 ghost use Rattle.decimal.specs.Numerals.{numeral};
-ghost use Rattle.replies.specs.Replies.{field, replyLine};
+ghost use Rattle.replies.specs.Replies.{replyMost, field, replyLine};
 use sets::Mask;
 
 // The five numbers: current is G, 0 if stopped; online is R; byte is the first byte read, 0 unless a read was done.
@@ -33,9 +33,9 @@ fn put_field(out: &mut [u8], at: usize, n: u16, end: u8) -> usize
 
 // Stores the line of a reply, and gives the place behind it.
 pub fn put_reply(out: &mut [u8], at: usize, reply: Reply) -> usize
-    requires { ⌜ at + 30 ≤ length (now out) ⌝ }
+    requires { ⌜ at + replyMost ≤ length (now out) ⌝ }
     ensures { λ r. ⌜ (r ≡ at + length (replyLine reply)) × (now (out .exit) ≡ splice at (replyLine reply) (now (out .entry))) ⌝ }
-    ensures { λ r. ⌜ r ≤ at + 30 ⌝ }
+    ensures { λ r. ⌜ r ≤ at + replyMost ⌝ }
 {
     let stores = put_field(out, at, reply.result as u16, b' ');
     let current = put_field(out, stores, reply.stores, b' ');

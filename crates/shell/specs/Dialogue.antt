@@ -2,11 +2,11 @@
 use mathlib.Core.Path.{_≡_}
 use mathlib.Core.Bool.{cond}
 use mathlib.Core.List.{List, [], _∷_, _++_}
-use Prim.Native.Nat.{ℕ}
+use Prim.Native.Nat.{ℕ, _+_}
 use lib.Dec.{eqb, ltb}
 use lib.ListN.{length, take}
 use Rattle.protocol.specs.Calls.{zeroState}
-use Rattle.commands.specs.Commands.{commandOf}
+use Rattle.commands.specs.Commands.{lineMost, commandOf}
 use Rattle.replies.specs.Replies.{replyLine}
 use Rattle.shell.specs.declared.Shell.{Shell}
 use Rattle.turns.specs.Turns.{Machine, Turn, respond}
@@ -48,9 +48,12 @@ endLine d = heard (d .line) (d .machine)
 abbrev pub lineEnded : Dialogue → Dialogue
 lineEnded d = record { machine = endLine d .machine; line = [] }
 
--- Of a line that is too long 33 bytes are held: "one over 32 bytes before its line feed, gives 99", however long.
+-- Of a line that is too long one byte more than a line may have is held: it "gives 99", however long.
+abbrev pub heldMost : ℕ
+heldMost = lineMost + 1
+
 unfoldable pub held : List ℕ → ℕ → List ℕ
-held line x = cond (ltb (length line) 33) (line ++ (x ∷ [])) line
+held line x = cond (ltb (length line) heldMost) (line ++ (x ∷ [])) line
 
 abbrev pub lineHeld : ℕ → Dialogue → Dialogue
 lineHeld x d = record { machine = d .machine; line = held (d .line) x }

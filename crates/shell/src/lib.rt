@@ -4,8 +4,8 @@ ghost use Prim.Native.Nat.{_+_, _*_, _≤_};
 ghost use lib.ListN.{length, take};
 ghost use Rattle.label.specs.Writing.{splice};
 ghost use Rattle.protocol.specs.Calls.{zeroState};
-ghost use Rattle.replies.specs.Replies.{replyLine};
-ghost use Rattle.shell.specs.Dialogue.{held, lineEnded, endLine, next, printed, after, says, last, closed, dialogue};
+ghost use Rattle.replies.specs.Replies.{replyMost, replyLine};
+ghost use Rattle.shell.specs.Dialogue.{heldMost, held, lineEnded, endLine, next, printed, after, says, last, closed, dialogue};
 use commands::LINE_MOST;
 use protocol::State;
 use turns::respond;
@@ -39,9 +39,9 @@ pub fn begin() -> Shell
 }
 
 fn hold(x: u8, h: Shell, line: &mut [u8]) -> Shell
-    requires { ⌜ (h .held ≤ 33) × (length (now line) ≡ 33) ⌝ }
+    requires { ⌜ (h .held ≤ heldMost) × (length (now line) ≡ heldMost) ⌝ }
     ensures line { λ r. ⌜ take (r .held) (now (line .exit)) ≡ held (take (h .held) (now (line .entry))) x ⌝ }
-    ensures rest { λ r. ⌜ (r .state ≡ h .state) × (r .used ≡ h .used) × (r .held ≤ 33) ⌝ }
+    ensures rest { λ r. ⌜ (r .state ≡ h .state) × (r .used ≡ h .used) × (r .held ≤ heldMost) ⌝ }
 {
     let at = h.held;
     if at < line.len() {
@@ -58,10 +58,10 @@ fn hold(x: u8, h: Shell, line: &mut [u8]) -> Shell
 
 // The line that is held has ended: it is carried out, and its reply stands behind the others.
 fn end_line(h: Shell, line: &[u8], memory: &mut [u8], out: &mut [u8]) -> Shell
-    requires { ⌜ (h .held ≤ length (now line)) × (h .used + 30 ≤ length (now out)) ⌝ }
+    requires { ⌜ (h .held ≤ length (now line)) × (h .used + replyMost ≤ length (now out)) ⌝ }
     ensures dialogue { λ r. ⌜ dialogue r (now (line .entry)) (now (memory .exit)) ≡ lineEnded (dialogue h (now (line .entry)) (now (memory .entry))) ⌝ }
     ensures output { λ r. ⌜ (r .used ≡ h .used + length (replyLine (endLine (dialogue h (now (line .entry)) (now (memory .entry))) .reply))) × (now (out .exit) ≡ splice (h .used) (replyLine (endLine (dialogue h (now (line .entry)) (now (memory .entry))) .reply)) (now (out .entry))) ⌝ }
-    ensures room { λ r. ⌜ r .used ≤ h .used + 30 ⌝ }
+    ensures room { λ r. ⌜ r .used ≤ h .used + replyMost ⌝ }
     ensures ended { λ r. ⌜ r .held ≡ 0 ⌝ }
 {
     let held = h.held;
@@ -73,10 +73,10 @@ fn end_line(h: Shell, line: &[u8], memory: &mut [u8], out: &mut [u8]) -> Shell
 }
 
 fn take_byte(x: u8, h: Shell, line: &mut [u8], memory: &mut [u8], out: &mut [u8]) -> Shell
-    requires { ⌜ (h .held ≤ 33) × (length (now line) ≡ 33) × (h .used + 30 ≤ length (now out)) ⌝ }
+    requires { ⌜ (h .held ≤ heldMost) × (length (now line) ≡ heldMost) × (h .used + replyMost ≤ length (now out)) ⌝ }
     ensures dialogue { λ r. ⌜ dialogue r (now (line .exit)) (now (memory .exit)) ≡ next x (dialogue h (now (line .entry)) (now (memory .entry))) ⌝ }
     ensures output { λ r. ⌜ (r .used ≡ h .used + length (printed x (dialogue h (now (line .entry)) (now (memory .entry))))) × (now (out .exit) ≡ splice (h .used) (printed x (dialogue h (now (line .entry)) (now (memory .entry)))) (now (out .entry))) ⌝ }
-    ensures room { λ r. ⌜ (r .held ≤ 33) × (r .used ≤ h .used + 30) ⌝ }
+    ensures room { λ r. ⌜ (r .held ≤ heldMost) × (r .used ≤ h .used + replyMost) ⌝ }
 {
     if x == b'\n' {
         return end_line(h, line, memory, out);
@@ -86,10 +86,10 @@ fn take_byte(x: u8, h: Shell, line: &mut [u8], memory: &mut [u8], out: &mut [u8]
 
 // Takes a block of input, cut anywhere. What its lines print stands in the output behind what was there.
 pub fn serve(block: &[u8], h: Shell, line: &mut [u8], memory: &mut [u8], out: &mut [u8]) -> Shell
-    requires { ⌜ (h .held ≤ 33) × (length (now line) ≡ 33) × (h .used + length (now block) * 30 ≤ length (now out)) ⌝ }
+    requires { ⌜ (h .held ≤ heldMost) × (length (now line) ≡ heldMost) × (h .used + length (now block) * replyMost ≤ length (now out)) ⌝ }
     ensures dialogue { λ r. ⌜ dialogue r (now (line .exit)) (now (memory .exit)) ≡ after (now (block .entry)) (dialogue h (now (line .entry)) (now (memory .entry))) ⌝ }
     ensures output { λ r. ⌜ (r .used ≡ h .used + length (says (now (block .entry)) (dialogue h (now (line .entry)) (now (memory .entry))))) × (now (out .exit) ≡ splice (h .used) (says (now (block .entry)) (dialogue h (now (line .entry)) (now (memory .entry)))) (now (out .entry))) ⌝ }
-    ensures room { λ r. ⌜ (r .held ≤ 33) × (r .used ≤ h .used + length (now (block .entry)) * 30) ⌝ }
+    ensures room { λ r. ⌜ (r .held ≤ heldMost) × (r .used ≤ h .used + length (now (block .entry)) * replyMost) ⌝ }
 {
     let mut q = h;
     let mut i = 0;
@@ -102,10 +102,10 @@ pub fn serve(block: &[u8], h: Shell, line: &mut [u8], memory: &mut [u8], out: &m
 
 // The input has ended, and with it a line that has begun.
 pub fn finish(h: Shell, line: &[u8], memory: &mut [u8], out: &mut [u8]) -> Shell
-    requires { ⌜ (h .held ≤ length (now line)) × (h .used + 30 ≤ length (now out)) ⌝ }
+    requires { ⌜ (h .held ≤ length (now line)) × (h .used + replyMost ≤ length (now out)) ⌝ }
     ensures dialogue { λ r. ⌜ dialogue r (now (line .entry)) (now (memory .exit)) ≡ closed (dialogue h (now (line .entry)) (now (memory .entry))) ⌝ }
     ensures output { λ r. ⌜ (r .used ≡ h .used + length (last (dialogue h (now (line .entry)) (now (memory .entry))))) × (now (out .exit) ≡ splice (h .used) (last (dialogue h (now (line .entry)) (now (memory .entry)))) (now (out .entry))) ⌝ }
-    ensures room { λ r. ⌜ (r .held ≡ 0) × (r .used ≤ h .used + 30) ⌝ }
+    ensures room { λ r. ⌜ (r .held ≡ 0) × (r .used ≤ h .used + replyMost) ⌝ }
 {
     if h.held == 0 {
         return h;
