@@ -1,7 +1,7 @@
 -- From the calls' promises to demand 3. Assumes nothing.
 use mathlib.Core.Path.{_≡_, refl, sym, ap, _∙_}
 use mathlib.Core.Logic.{_≢_, _⊎_, inl, inr}
-use mathlib.Core.List.{List, [], _∷_, _++_, nil≢cons, head-eq-of-cons-eq, tail-eq-of-cons-eq}
+use mathlib.Core.List.{List, [], _∷_, _++_, map-append, nil≢cons, head-eq-of-cons-eq, tail-eq-of-cons-eq}
 use Prim.Native.Nat.{ℕ}
 use Rattle.protocol.specs.declared.Call.the-variants.{Write}
 use Rattle.protocol.specs.declared.State.{State}
@@ -10,6 +10,7 @@ use Rattle.protocol.specs.History.{Cabinet, perform, outcomeOf, cabinetOf, ran}
 use Rattle.protocol.specs.Reference.{carriedBy, afterWrites, started, recorded, recordedAll}
 use Rattle.protocol.specs.Demand3.{CallIn, program, result, Demand3}
 use Rattle.protocol.specs.Claims.{refusalOf, contentsLeft, Counting}
+use Rattle.protocol.proofs.Histories.{ran-last}
 use Rattle.protocol.proofs.Invariant.{result-is, reference-is}
 use Rattle.protocol.proofs.Demand3.{demand-3}
 use Rattle.protocol.proofs.ReadCalls.{reads-right}
@@ -31,10 +32,8 @@ returned-is {area = a} (by-power-off {output = o} p) = p a o
 returned-is (by-apply p) = p
 
 -- one call more
-ran-last : (calls : List Exchange) (x : Exchange) (c : Cabinet) → ran (steps (calls ++ (x ∷ []))) c ≡ cabinetOf (outcomeOf (x .given) (ran (steps calls) c))
-unfolding ran
-ran-last [] x c = refl
-ran-last (y ∷ calls) x c = ran-last calls x (cabinetOf (outcomeOf (y .given) c))
+one-more : (calls : List Exchange) (x : Exchange) (c : Cabinet) → ran (steps (calls ++ (x ∷ []))) c ≡ cabinetOf (outcomeOf (x .given) (ran (steps calls) c))
+one-more calls x c = rw (map-append (λ y. y .given) calls (x ∷ [])) (ran-last (steps calls) (x .given) c)
 
 -- what stands in a list that is one longer is its last, or stood in it before
 module _ {A : Type 0} (x y : A) where
@@ -63,7 +62,7 @@ module _ {n b : ℕ} {lent : List ℕ} where
   left-is : {calls : List Exchange} {s : State} {area : List ℕ} → Session n b lent calls s area → record { state = s; area = area } ≡ program n b lent (steps calls)
   unfolding ran
   left-is (begun p z) = ap cabinetOf (p [])
-  left-is (followed {calls} {x = x} session r) = ap cabinetOf (returned-is r ∙ ap (outcomeOf (x .given)) (left-is session)) ∙ sym (ran-last calls x _)
+  left-is (followed {calls} {x = x} session r) = ap cabinetOf (returned-is r ∙ ap (outcomeOf (x .given)) (left-is session)) ∙ sym (one-more calls x _)
 
   -- the calls before any call of a session are a session
   handed : {calls : List Exchange} {s : State} {area : List ℕ} → Session n b lent calls s area → (c : ExchangeIn calls) → Handed n b lent (c .before) (c .this)

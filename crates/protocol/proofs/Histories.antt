@@ -1,7 +1,7 @@
 -- Lists of calls, and the reference beside them: what every call keeps holds after any list. Assumes nothing.
 use mathlib.Core.Path.{_≡_, refl}
 use mathlib.Core.List.{List, [], _∷_, _++_}
-use Rattle.protocol.specs.History.{Step, ran}
+use Rattle.protocol.specs.History.{Step, Cabinet, outcomeOf, cabinetOf, ran}
 use Rattle.protocol.specs.Reference.{Reference, recorded, recordedAll}
 
 -- two in a row
@@ -9,6 +9,12 @@ pub recorded-append : (xs ys : List Step) (ref : Reference) → recordedAll (xs 
 unfolding recordedAll
 recorded-append [] ys ref = refl
 recorded-append (x ∷ xs) ys ref = recorded-append xs ys (recorded x ref)
+
+-- one call more
+pub ran-last : (calls : List Step) (x : Step) (c : Cabinet) → ran (calls ++ (x ∷ [])) c ≡ cabinetOf (outcomeOf x (ran calls c))
+unfolding ran
+ran-last [] x c = refl
+ran-last (y ∷ calls) x c = ran-last calls x (cabinetOf (outcomeOf y c))
 
 -- the reference's cabinet does what the program's does
 pub same-cabinet : (calls : List Step) (ref : Reference) → recordedAll calls ref .cabinet ≡ ran calls (ref .cabinet)

@@ -63,11 +63,11 @@ module _ (n b : ℕ) (lent : List ℕ) (done : formatOutcome lent [] n b .answer
         blocks = refl;
       }
 
-  good : (calls : List Step) → Good n b (recordedAll calls (started n b))
+  pub good : (calls : List Step) → Good n b (recordedAll calls (started n b))
   good calls = after-calls (Good n b) (good-kept n b) calls (started n b) started-good
 
   -- the program's cabinet is the reference's, though neither is given anything of the other
-  program-is : (calls : List Step) → recordedAll calls (started n b) .cabinet ≡ program n b lent calls
+  pub program-is : (calls : List Step) → recordedAll calls (started n b) .cabinet ≡ program n b lent calls
   program-is calls = same-cabinet calls (started n b) ∙ ap (ran calls) (sym (format-done n b lent [] done .1))
 
   -- ---- a call of the list

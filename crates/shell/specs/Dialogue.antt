@@ -9,7 +9,8 @@ use Rattle.protocol.specs.Calls.{zeroState}
 use Rattle.commands.specs.Commands.{lineMost, commandOf}
 use Rattle.replies.specs.Replies.{replyLine}
 use Rattle.shell.specs.declared.Shell.{Shell}
-use Rattle.turns.specs.Turns.{Machine, Turn, respond}
+use Rattle.turns.specs.Turns.{Machine, Turn}
+use Rattle.turns.specs.Histories.{obeys}
 
 -- ---- a whole input
 
@@ -24,7 +25,7 @@ lines (x ∷ input) = cond (eqb x 10) ([] ∷ lines input) (ontoFirst x (lines i
 
 -- what a line does
 abbrev pub heard : List ℕ → Machine → Turn
-heard line m = respond (commandOf line) (m .state) (m .memory)
+heard line m = obeys (commandOf line) m
 
 -- "Each line prints one line"
 unfoldable pub answers : List (List ℕ) → Machine → List ℕ

@@ -14,7 +14,7 @@ use Rattle.protocol.specs.declared.State.{State}
 use Rattle.protocol.specs.Geometry.{areaSize, blockSize}
 use Rattle.protocol.specs.Calls.{formatOutcome}
 use Rattle.protocol.specs.History.{Cabinet, perform}
-use Rattle.turns.specs.Turns.{replyTo, keptState, formatTurn, callTurn}
+use Rattle.turns.specs.Turns.{replyTo, keptState, formatTurn, callReply, callTurn}
 use Rattle.turns.proofs.FirstByte.{first-byte}
 
 module _ (size : ℕ) (memory : List ℕ) where
@@ -58,7 +58,7 @@ pub call-leaves : (call : Call) (byte : ℕ) (s : State) (memory : List ℕ) (en
       machine = record { state = a .state; memory = area ++ drop end memory };
       reply = replyTo (a .refusal) (a .stores) (a .state) (getD output 0 0);
     } ≡ callTurn call byte s memory
-unfolding callTurn
+unfolding callTurn callReply
 call-leaves call byte s memory end e done =
     let part = lent (areaSize (s .disks) (s .blocks)) memory end e in
     let before : Cabinet = record { state = s; area = take end memory } in

@@ -12,7 +12,7 @@ use Rattle.protocol.specs.Geometry.{blockSize, areaSize}
 use Rattle.protocol.specs.States.{currentOf}
 use Rattle.protocol.specs.Outcomes.{Outcome}
 use Rattle.protocol.specs.Calls.{formatOutcome}
-use Rattle.protocol.specs.History.{perform}
+use Rattle.protocol.specs.History.{Step, outcomeOf}
 use Rattle.commands.specs.declared.Command.{Command}
 use Rattle.commands.specs.declared.Command.the-variants.{Format, Perform, Bad}
 use Rattle.replies.specs.declared.Reply.{Reply}
@@ -71,13 +71,20 @@ formatTurn n b s memory =
       reply = replyTo (o .answer .refusal) (o .answer .stores) kept 0;
     }
 
--- "write a block of 64 bytes v": the output is of the program's own, zeros before
+-- "write a block of 64 bytes v"; the output is the program's own, zeros before
+abbrev pub stepOf : Call → ℕ → Step
+stepOf call byte = record { call = call; bytes = replicate blockSize byte; output = replicate blockSize 0 }
+
+-- what a call of the list yields, as a reply
+unfoldable pub callReply : Call → Outcome → Reply
+callReply call o = replyTo (o .answer .refusal) (o .answer .stores) (o .answer .state) (firstByte call (o .answer .refusal) (getD (o .output) 0 0))
+
 unfoldable pub callTurn : Call → ℕ → State → List ℕ → Turn
 callTurn call byte s memory =
-    let o = perform call (replicate blockSize byte) (replicate blockSize 0) (record { state = s; area = areaOf (s .disks) (s .blocks) memory }) in
+    let o = outcomeOf (stepOf call byte) (record { state = s; area = areaOf (s .disks) (s .blocks) memory }) in
     record {
       machine = record { state = o .answer .state; memory = withArea (s .disks) (s .blocks) memory (o .area) };
-      reply = replyTo (o .answer .refusal) (o .answer .stores) (o .answer .state) (firstByte call (o .answer .refusal) (getD (o .output) 0 0));
+      reply = callReply call o;
     }
 
 -- "Any other line [..] gives 99 and changes nothing"
