@@ -12,6 +12,7 @@ use Rattle.commands.specs.declared.Command.the-variants.{Format, Perform
 
 -- ---- words and numbers
 
+-- a byte in front of the first of several strings
 abbrev pub onFirst : ℕ → List (List ℕ) → List (List ℕ)
 onFirst x [] = (x ∷ []) ∷ []
 onFirst x (w ∷ later) = (x ∷ w) ∷ later

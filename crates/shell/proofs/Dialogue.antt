@@ -10,10 +10,12 @@ use lib.ListN.{length, take, getD, set, length-append}
 use lib.Seq.{take-suc, take-suc-set, take-all, take-append-le, length-take-le}
 use borrow.Author.Tests.{lt-ltb, le-ltb, ltb-true, ltb-false}
 use Rattle.sets.proofs.Tests.{Test, test, passes, fails}
-use Rattle.commands.specs.Commands.{commandOf}
+use Rattle.label.specs.Writing.{splice}
+use Rattle.label.proofs.Splicing.{stored-after}
+use Rattle.commands.specs.Commands.{onFirst, commandOf}
 use Rattle.replies.specs.Replies.{replyLine}
 use Rattle.turns.specs.Turns.{Machine}
-use Rattle.shell.specs.Dialogue.{lines, ontoFirst, heard, answers, transcript, Dialogue, held, next, printed, after, says, last, opening, joinedBlocks, saysBlocks, BlocksGiveTranscript}
+use Rattle.shell.specs.Dialogue.{lines, heard, answers, transcript, Dialogue, held, next, printed, after, says, last, opening, joinedBlocks, saysBlocks, BlocksGiveTranscript}
 
 -- ---- the bytes of a line that are held
 
@@ -43,14 +45,21 @@ says-append (x ∷ first) later d = rw (says-append first later (next x d)) (sym
 
 -- ---- one byte more of a block
 
-module _ (block : List ℕ) (i : ℕ) (here : i < length block) (d : Dialogue) where
-  pub after-next : after (take (i + 1) block) d ≡ next (getD block i 0) (after (take i block) d)
+module _ (block : List ℕ) (i : ℕ) (here : i < length block) (d : Dialogue) {q : Dialogue} (so-far : q ≡ after (take i block) d) where
+  pub after-next : {r : Dialogue} → r ≡ next (getD block i 0) q → r ≡ after (take (i + 1) block) d
   unfolding after
-  after-next = rw (add-one i, take-suc block i 0 here) (after-append (take i block) _ d)
+  after-next e = e ∙ rw (so-far, add-one i, take-suc block i 0 here) (sym (after-append (take i block) _ d))
 
-  pub says-next : says (take (i + 1) block) d ≡ says (take i block) d ++ printed (getD block i 0) (after (take i block) d)
+  says-next : says (take (i + 1) block) d ≡ says (take i block) d ++ printed (getD block i 0) q
   unfolding says
-  says-next = rw (add-one i, take-suc block i 0 here) (says-append (take i block) _ d ∙ rw append-nil)
+  says-next = rw (so-far, add-one i, take-suc block i 0 here) (says-append (take i block) _ d ∙ rw append-nil)
+
+  -- what it prints is stored behind what was printed
+  pub stores-next : (old : List ℕ) (at : ℕ) {used used′ : ℕ} {out out′ : List ℕ} → at ≤ length old
+      → (used ≡ at + length (says (take i block) d)) × (out ≡ splice at (says (take i block) d) old)
+      → (used′ ≡ used + length (printed (getD block i 0) q)) × (out′ ≡ splice used (printed (getD block i 0) q) out)
+      → (used′ ≡ at + length (says (take (i + 1) block) d)) × (out′ ≡ splice at (says (take (i + 1) block) d) old)
+  stores-next old at room before step = rw says-next (stored-after old (says (take i block) d) (printed (getD block i 0) q) at room before step)
 
 -- ---- 33 bytes of a line say what the whole says
 
@@ -91,7 +100,7 @@ prefixed-end : (line : List ℕ) (later : List (List ℕ)) → prefixed line ([]
 prefixed-end [] later = refl
 prefixed-end (y ∷ line) later = rw (append-nil line)
 
-prefixed-byte : (line : List ℕ) (x : ℕ) (later : List (List ℕ)) → prefixed (line ++ (x ∷ [])) later ≡ prefixed line (ontoFirst x later)
+prefixed-byte : (line : List ℕ) (x : ℕ) (later : List (List ℕ)) → prefixed (line ++ (x ∷ [])) later ≡ prefixed line (onFirst x later)
 prefixed-byte [] x [] = refl
 prefixed-byte [] x (first ∷ later) = refl
 prefixed-byte (y ∷ line) x [] = refl

@@ -6,22 +6,18 @@ use Prim.Native.Nat.{ℕ, _+_}
 use lib.Dec.{eqb, ltb}
 use lib.ListN.{length, take}
 use Rattle.protocol.specs.Calls.{zeroState}
-use Rattle.commands.specs.Commands.{lineMost, commandOf}
+use Rattle.commands.specs.Commands.{onFirst, lineMost, commandOf}
 use Rattle.replies.specs.Replies.{replyLine}
-use Rattle.shell.specs.declared.Shell.{Shell}
 use Rattle.turns.specs.Turns.{Machine, Turn}
 use Rattle.turns.specs.Histories.{obeys}
+use Rattle.shell.specs.declared.Shell.{Shell}
 
 -- ---- a whole input
-
-abbrev pub ontoFirst : ℕ → List (List ℕ) → List (List ℕ)
-ontoFirst x [] = (x ∷ []) ∷ []
-ontoFirst x (line ∷ later) = (x ∷ line) ∷ later
 
 -- "the last line may lack its line feed, and an end of input right after a line feed starts no line": 10 is the line feed
 unfoldable pub lines : List ℕ → List (List ℕ)
 lines [] = []
-lines (x ∷ input) = cond (eqb x 10) ([] ∷ lines input) (ontoFirst x (lines input))
+lines (x ∷ input) = cond (eqb x 10) ([] ∷ lines input) (onFirst x (lines input))
 
 -- what a line does
 abbrev pub heard : List ℕ → Machine → Turn

@@ -7,9 +7,9 @@ use lib.ListN.{length, take}
 use lib.Seq.{take-all}
 use borrow.Author.Needs.{needs}
 use Rattle.label.specs.Writing.{splice}
-use Rattle.label.proofs.Splicing.{splice-nothing, stored-after}
+use Rattle.label.proofs.Splicing.{splice-nothing}
 use Rattle.shell.specs.Dialogue.{after, says, dialogue}
-use Rattle.shell.proofs.Dialogue.{after-next, says-next}
+use Rattle.shell.proofs.Dialogue.{after-next, stores-next}
 use Rattle.shell.proofs.serve.Statement.{statement}
 use Rattle.shell.proofs.serve.Tie as tie
 
@@ -52,8 +52,8 @@ loop-again c =
       omega arith,
       omega arith,
       omega arith,
-      rw (after-next block (l .i) here d, ← l .inv .4) (step .0),
-      rw (says-next block (l .i) here d, ← l .inv .4) (stored-after (start .out .now) _ _ (start .h .used) (omega arith) (l .inv .5) (step .1 .0)),
+      after-next block (l .i) here d (l .inv .4) (step .0),
+      stores-next block (l .i) here d (l .inv .4) (start .out .now) (start .h .used) (omega arith) (l .inv .5) (step .1 .0),
       step .1 .1 .0,
       omega (arith, step .1 .1 .1),
     )
