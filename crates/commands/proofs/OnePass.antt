@@ -14,7 +14,7 @@ use Rattle.commands.specs.Scanning.{begun, wordEnded, byteRead, stepped,
 
 -- ---- a pass in two parts, and its counts
 
-pub scanned-append : (s : Scan) (first next : List ℕ) → scanned s (first ++ next) ≡ scanned (scanned s first) next
+scanned-append : (s : Scan) (first next : List ℕ) → scanned s (first ++ next) ≡ scanned (scanned s first) next
 unfolding scanned
 scanned-append s [] next = refl
 scanned-append s (x ∷ first) next = scanned-append (stepped s x) first next

@@ -13,7 +13,7 @@ use Rattle.decimal.specs.Numerals.{digit, value, valueFrom}
 use Rattle.commands.specs.declared.Command.{Command}
 use Rattle.commands.specs.declared.Command.the-variants.{Bad}
 use Rattle.commands.specs.declared.scanner.Scan.{Scan}
-use Rattle.commands.specs.Commands.{words, onFirst, digits, isNumber, areNumbers, meant, spoken}
+use Rattle.commands.specs.Commands.{numberMost, sized, words, onFirst, digits, isNumber, areNumbers, meant, spoken}
 use Rattle.commands.specs.Scanning.{begun, grown, within, fits, wordEnded, letterWith, byteRead, stepped, scanned, decoded}
 
 -- ---- a word's value, which stops growing where it is too large
@@ -29,10 +29,10 @@ capped-snoc : (w : List ℕ) (v x : ℕ) → cappedFrom v (w ++ (x ∷ [])) ≡ 
 capped-snoc [] v x = refl
 capped-snoc (y ∷ w) v x = capped-snoc w (grown v y) x
 
-large-stays : (w : List ℕ) (v : ℕ) → 65535 < v → cappedFrom v w ≡ v
+large-stays : (w : List ℕ) (v : ℕ) → numberMost < v → cappedFrom v w ≡ v
 unfolding grown
 large-stays [] v h = refl
-large-stays (x ∷ w) v h = rw (lt-ltb 65535 v h) (large-stays w v h)
+large-stays (x ∷ w) v h = rw (lt-ltb numberMost v h) (large-stays w v h)
 
 value-grows : (w : List ℕ) (v : ℕ) → v ≤ valueFrom v w
 unfolding valueFrom
@@ -41,17 +41,17 @@ value-grows (x ∷ w) v = omega (arith, value-grows w (v * 10 + (x - 48)))
 
 -- too large where the value is, and otherwise the value
 data Capped (v : ℕ) (w : List ℕ) : Type 0 where
-  large : 65535 < cappedFrom v w → 65535 < valueFrom v w → Capped v w
+  large : numberMost < cappedFrom v w → numberMost < valueFrom v w → Capped v w
   exact : cappedFrom v w ≡ valueFrom v w → Capped v w
 
 how-capped : (w : List ℕ) (v : ℕ) → Capped v w
 unfolding grown valueFrom
 how-capped [] v = exact refl
-how-capped (x ∷ w) v = go (test (ltb 65535 v)) (how-capped w (v * 10 + (x - 48)))
+how-capped (x ∷ w) v = go (test (ltb numberMost v)) (how-capped w (v * 10 + (x - 48)))
   where
-    go : Test (ltb 65535 v) → Capped (v * 10 + (x - 48)) w → Capped v (x ∷ w)
+    go : Test (ltb numberMost v) → Capped (v * 10 + (x - 48)) w → Capped v (x ∷ w)
     go (passes e) later =
-        let h = ltb-true 65535 v e in
+        let h = ltb-true numberMost v e in
         large (rw (large-stays (x ∷ w) v h) h) (omega (arith, h, value-grows (x ∷ w) v))
     go (fails e) (large h k) = large (rw e h) k
     go (fails e) (exact h) = exact (rw e h)
@@ -85,7 +85,7 @@ letterOf (v ∷ done) w = letterOf done v
 -- whether a word may end behind these
 abbrev endFits : List (List ℕ) → List ℕ → Bool
 endFits [] w = eqb (length w) 1
-endFits (v ∷ done) w = ltb 0 (length w) && leb (length w) 5 && leb (capped w) 65535
+endFits (v ∷ done) w = sized (length w) (capped w)
 
 abbrev goodOf : List (List ℕ) → List ℕ → Bool
 goodOf [] w = true
@@ -192,18 +192,18 @@ as-number : (w : List ℕ) → isNumber w ≡ true → numberOf w ≡ value w
 unfolding isNumber numberOf within value
 as-number w e = go (how-capped w 0)
   where
-    small : leb (valueFrom 0 w) 65535 ≡ true
-    small = and-parts (ltb 0 (length w) && leb (length w) 5) (leb (valueFrom 0 w) 65535) (and-parts (digits w) _ e .1) .1
+    small : leb (valueFrom 0 w) numberMost ≡ true
+    small = and-parts (ltb 0 (length w) && leb (length w) 5) (leb (valueFrom 0 w) numberMost) (and-parts (digits w) _ e .1) .1
 
     go : Capped 0 w → numberOf w ≡ valueFrom 0 w
-    go (large h k) = absurd (omega (arith, k, leb-true (valueFrom 0 w) 65535 small))
-    go (exact h) = rw (h, le-ltb 65535 (valueFrom 0 w) (leb-true (valueFrom 0 w) 65535 small))
+    go (large h k) = absurd (omega (arith, k, leb-true (valueFrom 0 w) numberMost small))
+    go (exact h) = rw (h, le-ltb numberMost (valueFrom 0 w) (leb-true (valueFrom 0 w) numberMost small))
 
-ends-as-number : (w : List ℕ) → (digits w && (ltb 0 (length w) && leb (length w) 5 && leb (capped w) 65535)) ≡ isNumber w
+ends-as-number : (w : List ℕ) → (digits w && sized (length w) (capped w)) ≡ isNumber w
 unfolding isNumber value
 ends-as-number w = go (how-capped w 0)
   where
-    go : Capped 0 w → (digits w && (ltb 0 (length w) && leb (length w) 5 && leb (capped w) 65535)) ≡ (digits w && (ltb 0 (length w) && leb (length w) 5 && leb (valueFrom 0 w) 65535))
+    go : Capped 0 w → (digits w && sized (length w) (capped w)) ≡ (digits w && sized (length w) (valueFrom 0 w))
     go (large h k) = rw (lt-leb _ _ h, lt-leb _ _ k)
     go (exact h) = rw h
 

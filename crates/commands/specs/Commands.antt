@@ -26,9 +26,17 @@ unfoldable pub digits : List ℕ → Bool
 digits [] = true
 digits (x ∷ w) = digit x && digits w
 
+-- "at most 65,535"
+abbrev pub numberMost : ℕ
+numberMost = 65535
+
+-- "1 to 5 digits", and the value
+abbrev pub sized : ℕ → ℕ → Bool
+sized count v = ltb 0 count && leb count 5 && leb v numberMost
+
 -- "numbers are decimal, 1 to 5 digits, at most 65,535"
 unfoldable pub isNumber : List ℕ → Bool
-isNumber w = digits w && (ltb 0 (length w) && leb (length w) 5 && leb (value w) 65535)
+isNumber w = digits w && sized (length w) (value w)
 
 unfoldable pub areNumbers : List (List ℕ) → Bool
 areNumbers [] = true

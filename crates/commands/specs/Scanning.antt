@@ -2,25 +2,25 @@
 use mathlib.Core.Bool.{Bool, true, cond, _&&_, _||_}
 use mathlib.Core.List.{List, [], _∷_}
 use Prim.Native.Nat.{ℕ, _+_, _-_, _*_}
-use lib.Dec.{eqb, ltb, leb}
+use lib.Dec.{eqb, ltb}
 use Rattle.decimal.specs.Numerals.{digit}
 use Rattle.commands.specs.declared.Command.{Command}
 use Rattle.commands.specs.declared.Command.the-variants.{Bad}
 use Rattle.commands.specs.declared.scanner.Scan.{Scan}
-use Rattle.commands.specs.Commands.{meant}
+use Rattle.commands.specs.Commands.{numberMost, sized, meant}
 
 unfoldable pub begun : Scan
 begun = record { letter = 0; words = 0; third = 0; second = 0; last = 0; bytes = 0; value = 0; good = true }
 
 -- one digit more, unless the value is too large already
 unfoldable pub grown : ℕ → ℕ → ℕ
-grown value x = cond (ltb 65535 value) value (value * 10 + (x - 48))
+grown value x = cond (ltb numberMost value) value (value * 10 + (x - 48))
 
 unfoldable pub within : ℕ → ℕ
-within value = cond (ltb 65535 value) 0 value
+within value = cond (ltb numberMost value) 0 value
 
 unfoldable pub fits : Scan → Bool
-fits s = cond (eqb (s .words) 0) (eqb (s .bytes) 1) (ltb 0 (s .bytes) && leb (s .bytes) 5 && leb (s .value) 65535)
+fits s = cond (eqb (s .words) 0) (eqb (s .bytes) 1) (sized (s .bytes) (s .value))
 
 unfoldable pub wordEnded : Scan → Scan
 wordEnded s = record {

@@ -1,14 +1,13 @@
 // Numbers as decimal numerals.
-ghost use mathlib.Core.Path.{_≡_};
 ghost use Prim.Native.Nat.{_+_, _≤_};
 ghost use lib.ListN.{length};
-ghost use Rattle.label.specs.Writing.{splice};
+ghost use Rattle.label.specs.Writing.{Stored};
 ghost use Rattle.decimal.specs.Numerals.{numeral};
 
 // Stores the number's numeral at a place, and gives the place behind it.
 pub fn put(out: &mut [u8], at: usize, n: u16) -> usize
     requires { ⌜ at + length (numeral n) ≤ length (now out) ⌝ }
-    ensures { λ r. ⌜ (r ≡ at + length (numeral n)) × (now (out .exit) ≡ splice at (numeral n) (now (out .entry))) ⌝ }
+    ensures { λ r. ⌜ Stored at (numeral n) (now (out .entry)) r (now (out .exit)) ⌝ }
 {
     if n < 10 {
         out[at] = 48 + n as u8;

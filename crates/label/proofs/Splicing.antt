@@ -7,7 +7,7 @@ use native.Mathlib.Numerals.{add-one}
 use native.Mathlib.Omega.{arith}
 use lib.ListN.{length, take, drop, set, length-append, take-append-drop}
 use lib.Seq.{set-split, length-take-le, take-append-seam, drop-append-add, drop-drop}
-use Rattle.label.specs.Writing.{splice}
+use Rattle.label.specs.Writing.{splice, Stored}
 
 pub splice-nothing : (old : List ℕ) (at : ℕ) → splice at [] old ≡ old
 unfolding splice
@@ -41,7 +41,6 @@ splice-behind old first next at e = rw (← e, ← zero-add (length first)) (spl
 
 -- the same of functions that store and give the place behind
 pub stored-after : (old first next : List ℕ) (at : ℕ) {r₁ r₂ : ℕ} {o₁ o₂ : List ℕ} → at ≤ length old
-    → (r₁ ≡ at + length first) × (o₁ ≡ splice at first old) → (r₂ ≡ r₁ + length next) × (o₂ ≡ splice r₁ next o₁)
-    → (r₂ ≡ at + length (first ++ next)) × (o₂ ≡ splice at (first ++ next) old)
+    → Stored at first old r₁ o₁ → Stored r₁ next o₁ r₂ o₂ → Stored at (first ++ next) old r₂ o₂
 stored-after old first next at h a b =
     (rw (b .0, a .0, length-append first next) (add-assoc at _ _), rw (b .1, a .0, a .1) (splice-after old first next at h))

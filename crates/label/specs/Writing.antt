@@ -1,4 +1,5 @@
 -- Document 01, "Label writing".
+use mathlib.Core.Path.{_≡_}
 use mathlib.Core.Bool.{Bool, cond}
 use mathlib.Core.List.{List, [], _∷_, _++_}
 use Prim.Native.Nat.{ℕ, _+_}
@@ -30,6 +31,10 @@ written f d n l room =
 -- a list whose elements from a place on are replaced by those of another
 unfoldable pub splice : ℕ → List ℕ → List ℕ → List ℕ
 splice at new old = take at old ++ (new ++ drop (at + length new) old)
+
+-- these bytes are stored in a buffer at a place: the place behind them, and the buffer afterwards
+abbrev pub Stored : ℕ → List ℕ → List ℕ → ℕ → List ℕ → Type 0
+Stored at new old behind after = (behind ≡ at + length new) × (after ≡ splice at new old)
 
 -- "bytes beyond the label stay"; refused, "no change in the state or any buffer"
 unfoldable pub writtenBytes : Form → ℕ → ℕ → Label → List ℕ → List ℕ

@@ -1,10 +1,7 @@
 // The line that answers a line of the cabinet program.
-ghost use mathlib.Core.Path.{_≡_};
-ghost use mathlib.Core.List.{[], _∷_, _++_};
 ghost use Prim.Native.Nat.{_+_, _≤_};
 ghost use lib.ListN.{length};
-ghost use Rattle.label.specs.Writing.{splice};
-ghost use Rattle.decimal.specs.Numerals.{numeral};
+ghost use Rattle.label.specs.Writing.{Stored};
 ghost use Rattle.replies.specs.Replies.{replyMost, field, replyLine};
 use sets::Mask;
 
@@ -23,7 +20,7 @@ pub const REPLY_MOST: usize = 30;
 // Stores a number and the byte that ends it, and gives the place behind them.
 fn put_field(out: &mut [u8], at: usize, n: u16, end: u8) -> usize
     requires { ⌜ at + 6 ≤ length (now out) ⌝ }
-    ensures { λ r. ⌜ (r ≡ at + length (field n end)) × (now (out .exit) ≡ splice at (field n end) (now (out .entry))) ⌝ }
+    ensures { λ r. ⌜ Stored at (field n end) (now (out .entry)) r (now (out .exit)) ⌝ }
     ensures { λ r. ⌜ r ≤ at + 6 ⌝ }
 {
     let last = decimal::put(out, at, n);
@@ -34,7 +31,7 @@ fn put_field(out: &mut [u8], at: usize, n: u16, end: u8) -> usize
 // Stores the line of a reply, and gives the place behind it.
 pub fn put_reply(out: &mut [u8], at: usize, reply: Reply) -> usize
     requires { ⌜ at + replyMost ≤ length (now out) ⌝ }
-    ensures { λ r. ⌜ (r ≡ at + length (replyLine reply)) × (now (out .exit) ≡ splice at (replyLine reply) (now (out .entry))) ⌝ }
+    ensures { λ r. ⌜ Stored at (replyLine reply) (now (out .entry)) r (now (out .exit)) ⌝ }
     ensures { λ r. ⌜ r ≤ at + replyMost ⌝ }
 {
     let stores = put_field(out, at, reply.result as u16, b' ');

@@ -10,7 +10,7 @@ use lib.ListN.{length, take, getD, set, length-append}
 use lib.Seq.{take-suc, take-suc-set, take-all, take-append-le, length-take-le}
 use borrow.Author.Tests.{lt-ltb, le-ltb, ltb-true, ltb-false}
 use Rattle.sets.proofs.Tests.{Test, test, passes, fails}
-use Rattle.label.specs.Writing.{splice}
+use Rattle.label.specs.Writing.{Stored}
 use Rattle.label.proofs.Splicing.{stored-after}
 use Rattle.commands.specs.Commands.{onFirst, commandOf}
 use Rattle.replies.specs.Replies.{replyLine}
@@ -33,12 +33,12 @@ held-full line at x h full =
 
 -- ---- input in two parts
 
-pub after-append : (first later : List ℕ) (d : Dialogue) → after (first ++ later) d ≡ after later (after first d)
+after-append : (first later : List ℕ) (d : Dialogue) → after (first ++ later) d ≡ after later (after first d)
 unfolding after
 after-append [] later d = refl
 after-append (x ∷ first) later d = after-append first later (next x d)
 
-pub says-append : (first later : List ℕ) (d : Dialogue) → says (first ++ later) d ≡ says first d ++ says later (after first d)
+says-append : (first later : List ℕ) (d : Dialogue) → says (first ++ later) d ≡ says first d ++ says later (after first d)
 unfolding after says
 says-append [] later d = refl
 says-append (x ∷ first) later d = rw (says-append first later (next x d)) (sym (append-assoc (printed x d) _ _))
@@ -56,9 +56,8 @@ module _ (block : List ℕ) (i : ℕ) (here : i < length block) (d : Dialogue) {
 
   -- what it prints is stored behind what was printed
   pub stores-next : (old : List ℕ) (at : ℕ) {used used′ : ℕ} {out out′ : List ℕ} → at ≤ length old
-      → (used ≡ at + length (says (take i block) d)) × (out ≡ splice at (says (take i block) d) old)
-      → (used′ ≡ used + length (printed (getD block i 0) q)) × (out′ ≡ splice used (printed (getD block i 0) q) out)
-      → (used′ ≡ at + length (says (take (i + 1) block) d)) × (out′ ≡ splice at (says (take (i + 1) block) d) old)
+      → Stored at (says (take i block) d) old used out → Stored used (printed (getD block i 0) q) out used′ out′
+      → Stored at (says (take (i + 1) block) d) old used′ out′
   stores-next old at room before step = rw says-next (stored-after old (says (take i block) d) (printed (getD block i 0) q) at room before step)
 
 -- ---- 33 bytes of a line say what the whole says

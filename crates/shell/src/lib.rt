@@ -2,7 +2,7 @@
 ghost use mathlib.Core.Path.{_≡_};
 ghost use Prim.Native.Nat.{_+_, _*_, _≤_};
 ghost use lib.ListN.{length, take};
-ghost use Rattle.label.specs.Writing.{splice};
+ghost use Rattle.label.specs.Writing.{Stored};
 ghost use Rattle.protocol.specs.Calls.{zeroState};
 ghost use Rattle.replies.specs.Replies.{replyMost, replyLine};
 ghost use Rattle.shell.specs.Dialogue.{heldMost, held, lineEnded, endLine, next, printed, after, says, last, closed, dialogue};
@@ -60,7 +60,7 @@ fn hold(x: u8, h: Shell, line: &mut [u8]) -> Shell
 fn end_line(h: Shell, line: &[u8], memory: &mut [u8], out: &mut [u8]) -> Shell
     requires { ⌜ (h .held ≤ length (now line)) × (h .used + replyMost ≤ length (now out)) ⌝ }
     ensures dialogue { λ r. ⌜ dialogue r (now (line .entry)) (now (memory .exit)) ≡ lineEnded (dialogue h (now (line .entry)) (now (memory .entry))) ⌝ }
-    ensures output { λ r. ⌜ (r .used ≡ h .used + length (replyLine (endLine (dialogue h (now (line .entry)) (now (memory .entry))) .reply))) × (now (out .exit) ≡ splice (h .used) (replyLine (endLine (dialogue h (now (line .entry)) (now (memory .entry))) .reply)) (now (out .entry))) ⌝ }
+    ensures output { λ r. ⌜ Stored (h .used) (replyLine (endLine (dialogue h (now (line .entry)) (now (memory .entry))) .reply)) (now (out .entry)) (r .used) (now (out .exit)) ⌝ }
     ensures room { λ r. ⌜ r .used ≤ h .used + replyMost ⌝ }
     ensures ended { λ r. ⌜ r .held ≡ 0 ⌝ }
 {
@@ -75,7 +75,7 @@ fn end_line(h: Shell, line: &[u8], memory: &mut [u8], out: &mut [u8]) -> Shell
 fn take_byte(x: u8, h: Shell, line: &mut [u8], memory: &mut [u8], out: &mut [u8]) -> Shell
     requires { ⌜ (h .held ≤ heldMost) × (length (now line) ≡ heldMost) × (h .used + replyMost ≤ length (now out)) ⌝ }
     ensures dialogue { λ r. ⌜ dialogue r (now (line .exit)) (now (memory .exit)) ≡ next x (dialogue h (now (line .entry)) (now (memory .entry))) ⌝ }
-    ensures output { λ r. ⌜ (r .used ≡ h .used + length (printed x (dialogue h (now (line .entry)) (now (memory .entry))))) × (now (out .exit) ≡ splice (h .used) (printed x (dialogue h (now (line .entry)) (now (memory .entry)))) (now (out .entry))) ⌝ }
+    ensures output { λ r. ⌜ Stored (h .used) (printed x (dialogue h (now (line .entry)) (now (memory .entry)))) (now (out .entry)) (r .used) (now (out .exit)) ⌝ }
     ensures room { λ r. ⌜ (r .held ≤ heldMost) × (r .used ≤ h .used + replyMost) ⌝ }
 {
     if x == b'\n' {
@@ -88,7 +88,7 @@ fn take_byte(x: u8, h: Shell, line: &mut [u8], memory: &mut [u8], out: &mut [u8]
 pub fn serve(block: &[u8], h: Shell, line: &mut [u8], memory: &mut [u8], out: &mut [u8]) -> Shell
     requires { ⌜ (h .held ≤ heldMost) × (length (now line) ≡ heldMost) × (h .used + length (now block) * replyMost ≤ length (now out)) ⌝ }
     ensures dialogue { λ r. ⌜ dialogue r (now (line .exit)) (now (memory .exit)) ≡ after (now (block .entry)) (dialogue h (now (line .entry)) (now (memory .entry))) ⌝ }
-    ensures output { λ r. ⌜ (r .used ≡ h .used + length (says (now (block .entry)) (dialogue h (now (line .entry)) (now (memory .entry))))) × (now (out .exit) ≡ splice (h .used) (says (now (block .entry)) (dialogue h (now (line .entry)) (now (memory .entry)))) (now (out .entry))) ⌝ }
+    ensures output { λ r. ⌜ Stored (h .used) (says (now (block .entry)) (dialogue h (now (line .entry)) (now (memory .entry)))) (now (out .entry)) (r .used) (now (out .exit)) ⌝ }
     ensures room { λ r. ⌜ (r .held ≤ heldMost) × (r .used ≤ h .used + length (now (block .entry)) * replyMost) ⌝ }
 {
     let mut q = h;
@@ -104,7 +104,7 @@ pub fn serve(block: &[u8], h: Shell, line: &mut [u8], memory: &mut [u8], out: &m
 pub fn finish(h: Shell, line: &[u8], memory: &mut [u8], out: &mut [u8]) -> Shell
     requires { ⌜ (h .held ≤ length (now line)) × (h .used + replyMost ≤ length (now out)) ⌝ }
     ensures dialogue { λ r. ⌜ dialogue r (now (line .entry)) (now (memory .exit)) ≡ closed (dialogue h (now (line .entry)) (now (memory .entry))) ⌝ }
-    ensures output { λ r. ⌜ (r .used ≡ h .used + length (last (dialogue h (now (line .entry)) (now (memory .entry))))) × (now (out .exit) ≡ splice (h .used) (last (dialogue h (now (line .entry)) (now (memory .entry)))) (now (out .entry))) ⌝ }
+    ensures output { λ r. ⌜ Stored (h .used) (last (dialogue h (now (line .entry)) (now (memory .entry)))) (now (out .entry)) (r .used) (now (out .exit)) ⌝ }
     ensures room { λ r. ⌜ (r .held ≡ 0) × (r .used ≤ h .used + replyMost) ⌝ }
 {
     if h.held == 0 {

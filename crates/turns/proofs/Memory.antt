@@ -18,10 +18,10 @@ use Rattle.turns.specs.Turns.{replyTo, keptState, formatTurn, callReply,
 use Rattle.turns.proofs.FirstByte.{first-byte}
 
 module _ (size : ℕ) (memory : List ℕ) where
-  abbrev pub Lent : ℕ → Type 0
+  abbrev Lent : ℕ → Type 0
   Lent end = (take end memory ≡ take size memory) × (drop end memory ≡ drop size memory)
 
-  pub lent : (end : ℕ) → end ≡ min size (length memory) → Lent end
+  lent : (end : ℕ) → end ≡ min size (length memory) → Lent end
   lent end e = go (test (ltb size (length memory)))
     where
       go : Test (ltb size (length memory)) → Lent end

@@ -6,7 +6,7 @@ use native.Mathlib.Omega.{arith}
 use lib.ListN.{length, take}
 use lib.Seq.{take-all}
 use borrow.Author.Needs.{needs}
-use Rattle.label.specs.Writing.{splice}
+use Rattle.label.specs.Writing.{Stored}
 use Rattle.label.proofs.Splicing.{splice-nothing}
 use Rattle.shell.specs.Dialogue.{after, says, dialogue}
 use Rattle.shell.proofs.Dialogue.{after-next, stores-next}
@@ -17,7 +17,7 @@ abbrev Inv-loop : tie.InvT-loop
 Inv-loop block line₀ memory₀ out₀ q₀ i₀ line memory out q i =
     (i ≤ length block) × (length line ≡ length line₀) × (length memory ≡ length memory₀) × (length out ≡ length out₀)
     × (dialogue q line memory ≡ after (take i block) (dialogue q₀ line₀ memory₀))
-    × ((q .used ≡ q₀ .used + length (says (take i block) (dialogue q₀ line₀ memory₀))) × (out ≡ splice (q₀ .used) (says (take i block) (dialogue q₀ line₀ memory₀)) out₀))
+    × Stored (q₀ .used) (says (take i block) (dialogue q₀ line₀ memory₀)) out₀ (q .used) out
     × (q .held ≤ 33) × (q .used ≤ q₀ .used + i * 30)
 
 abbrev μ-loop : tie.MeasureT-loop
