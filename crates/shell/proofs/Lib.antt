@@ -1,1 +1,3 @@
-pub mod Dialogue
+pub mod Blocks
+pub mod Held
+pub mod Transcript

@@ -2,7 +2,7 @@
 use borrow.Author.Tests.{lt-ltb, le-ltb}
 use borrow.Author.Needs.{needs}
 use Rattle.commands.specs.Commands.{commandOf}
-use Rattle.commands.proofs.WordsFound.{pass-speaks}
+use Rattle.commands.proofs.Spoken.{pass-speaks}
 use Rattle.commands.proofs.parse.Statement.{statement}
 use Rattle.commands.proofs.parse.Tie as tie
 

@@ -2,7 +2,7 @@
 use mathlib.Core.Path.{refl}
 use native.Mathlib.Omega.{arith}
 use borrow.Author.Needs.{needs}
-use Rattle.shell.proofs.Dialogue.{held-next, held-full}
+use Rattle.shell.proofs.Held.{held-next, held-full}
 use Rattle.shell.proofs.hold.Statement.{statement}
 use Rattle.shell.proofs.hold.Tie as tie
 

@@ -8,8 +8,9 @@ use lib.Seq.{take-all}
 use borrow.Author.Needs.{needs}
 use Rattle.label.specs.Writing.{Stored}
 use Rattle.label.proofs.Splicing.{splice-nothing}
-use Rattle.shell.specs.Dialogue.{after, says, dialogue}
-use Rattle.shell.proofs.Dialogue.{after-next, stores-next}
+use Rattle.replies.specs.Replies.{replyMost}
+use Rattle.shell.specs.Dialogue.{heldMost, after, says, dialogue}
+use Rattle.shell.proofs.Blocks.{after-next, stores-next}
 use Rattle.shell.proofs.serve.Statement.{statement}
 use Rattle.shell.proofs.serve.Tie as tie
 
@@ -18,7 +19,7 @@ Inv-loop block line₀ memory₀ out₀ q₀ i₀ line memory out q i =
     (i ≤ length block) × (length line ≡ length line₀) × (length memory ≡ length memory₀) × (length out ≡ length out₀)
     × (dialogue q line memory ≡ after (take i block) (dialogue q₀ line₀ memory₀))
     × Stored (q₀ .used) (says (take i block) (dialogue q₀ line₀ memory₀)) out₀ (q .used) out
-    × (q .held ≤ 33) × (q .used ≤ q₀ .used + i * 30)
+    × (q .held ≤ heldMost) × (q .used ≤ q₀ .used + i * replyMost)
 
 abbrev μ-loop : tie.MeasureT-loop
 μ-loop block line₀ memory₀ out₀ q₀ i₀ line memory out q i =
