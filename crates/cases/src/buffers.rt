@@ -2,17 +2,20 @@
 ghost use Prim.Native.Nat.{_≤_};
 use crate::states::byte;
 use crate::table::PLACES;
+use protocol::geometry::BLOCK_SIZE;
+use protocol::geometry::MOST_BLOCKS;
+use sets::DISKS;
 
-// the area of eight disks with 64 blocks, and one block more
-pub const AREA_SIZE: usize = 32832;
+// The largest disk area, and one block more.
+pub const AREA_SIZE: usize = (DISKS * MOST_BLOCKS + 1) * BLOCK_SIZE;
 
-// two blocks
-pub const BLOCKS_SIZE: usize = 128;
+// Data and output, right or too long.
+pub const BLOCKS_SIZE: usize = 2 * BLOCK_SIZE;
 
-// no kind of case, but of buffer: a write's data
+// No kind of case, but of buffer: a write's data.
 pub const DATA: usize = 0;
 
-// a byte of an output before a call
+// A byte of an output before a call.
 pub const UNTOUCHED: u8 = 170;
 
 // A length is cut to the buffer's.

@@ -28,7 +28,7 @@ fn feed(block: &[u8], start: usize, numbers: &mut [usize; PLACES]) -> usize
 fn run(numbers: &mut [usize; PLACES], buffer: &mut [u8]) {
     let mut place = 0;
     let mut more = true;
-    // a loop needs a bound; no input has as many blocks
+    // A loop needs a bound; no input has as many blocks.
     let mut turns = u64::MAX;
     while turns > 0 && more {
         let n = io::read_full(STDIN_FILENO, buffer);

@@ -40,17 +40,17 @@ fn begin() -> Scan
 fn is_digit(x: u8) -> bool
     ensures { λ r. ⌜ r ≡ digit x ⌝ }
 {
-    (48 <= x) & (x <= 57)
+    (b'0' <= x) & (x <= b'9')
 }
 
 // What a byte stands for as a digit.
 fn digit_value(x: u8) -> u32
     ensures { λ r. ⌜ r ≡ x - 48 ⌝ }
 {
-    if x < 48 {
+    if x < b'0' {
         return 0;
     }
-    (x - 48) as u32
+    (x - b'0') as u32
 }
 
 // A value with one digit more. One that is too large already stays as it is, so that no line makes it overflow.

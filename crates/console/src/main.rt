@@ -1,9 +1,9 @@
 // The cabinet program: it reads a block of input, has the shell serve it, and writes what the shell said.
 ghost use mathlib.Core.Path.{_≡_};
-ghost use Prim.Native.Nat.{_*_, _≤_};
+ghost use Prim.Native.Nat.{_≤_};
 ghost use lib.ListN.{length};
-ghost use Rattle.replies.specs.Replies.{replyMost};
 ghost use Rattle.shell.specs.Dialogue.{heldMost};
+ghost use Rattle.console.specs.Buffers.{Room};
 use libc::STDIN_FILENO;
 use libc::STDOUT_FILENO;
 use protocol::geometry::BLOCK_SIZE;
@@ -38,7 +38,7 @@ fn hear(
     memory: &mut [u8],
     out: &mut [u8],
 ) -> Shell
-    requires { ⌜ (h .held ≤ heldMost) × (h .used ≡ 0) × (length (now line) ≡ heldMost) × (length (now block) * replyMost ≤ length (now out)) × (replyMost ≤ length (now out)) ⌝ }
+    requires { ⌜ (h .held ≤ heldMost) × (h .used ≡ 0) × Room (now block) (now line) (now out) ⌝ }
     ensures { λ r. ⌜ (r .held ≤ heldMost) × (r .used ≤ length (now (out .exit))) ⌝ }
 {
     if got < 0 {
@@ -54,7 +54,7 @@ fn hear(
 // One read, and the replies to what came, so that a person who types has them before the next read. Where they cannot be
 // written, nobody reads any more, and the program ends.
 fn take_turn(h: Shell, block: &mut [u8], line: &mut [u8], memory: &mut [u8], out: &mut [u8]) -> Turn
-    requires { ⌜ (h .held ≤ heldMost) × (h .used ≡ 0) × (length (now line) ≡ heldMost) × (length (now block) * replyMost ≤ length (now out)) × (replyMost ≤ length (now out)) ⌝ }
+    requires { ⌜ (h .held ≤ heldMost) × (h .used ≡ 0) × Room (now block) (now line) (now out) ⌝ }
     ensures { λ r. ⌜ (r .shell .held ≤ heldMost) × (r .shell .used ≡ 0) ⌝ }
 {
     let got = libc::read(STDIN_FILENO, block);
@@ -74,7 +74,7 @@ fn take_turn(h: Shell, block: &mut [u8], line: &mut [u8], memory: &mut [u8], out
 
 // The number of reads only lets the proof see an end: at a read each nanosecond it would be reached in 584 years.
 fn run(block: &mut [u8], line: &mut [u8], memory: &mut [u8], out: &mut [u8])
-    requires { ⌜ (length (now line) ≡ heldMost) × (length (now block) * replyMost ≤ length (now out)) × (replyMost ≤ length (now out)) ⌝ }
+    requires { ⌜ Room (now block) (now line) (now out) ⌝ }
 {
     let mut h = shell::begin();
     let mut more = true;

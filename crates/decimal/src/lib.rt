@@ -10,11 +10,11 @@ pub fn put(out: &mut [u8], at: usize, n: u16) -> usize
     ensures { λ r. ⌜ Stored at (numeral n) (now (out .entry)) r (now (out .exit)) ⌝ }
 {
     if n < 10 {
-        out[at] = 48 + n as u8;
+        out[at] = b'0' + n as u8;
         at + 1
     } else {
         let last = put(out, at, n / 10);
-        out[last] = 48 + (n % 10) as u8;
+        out[last] = b'0' + (n % 10) as u8;
         last + 1
     }
 }

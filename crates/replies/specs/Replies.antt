@@ -1,12 +1,15 @@
 -- Document 01, "The cabinet program": the line that each line prints.
 use mathlib.Core.List.{List, [], _∷_, _++_}
-use Prim.Native.Nat.{ℕ}
+use Prim.Native.Nat.{ℕ, _+_, _*_}
 use Rattle.decimal.specs.Numerals.{numeral}
 use Rattle.replies.specs.declared.Reply.{Reply}
 
--- five numbers of at most five digits, and a byte behind each
+-- a number of at most five digits and the byte that ends it, and five of these
+abbrev pub fieldMost : ℕ
+fieldMost = 5 + 1
+
 abbrev pub replyMost : ℕ
-replyMost = 30
+replyMost = 5 * fieldMost
 
 -- a number and the byte that ends it
 unfoldable pub field : ℕ → ℕ → List ℕ

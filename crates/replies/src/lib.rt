@@ -2,7 +2,7 @@
 ghost use Prim.Native.Nat.{_+_, _≤_};
 ghost use lib.ListN.{length};
 ghost use Rattle.label.specs.Writing.{Stored};
-ghost use Rattle.replies.specs.Replies.{replyMost, field, replyLine};
+ghost use Rattle.replies.specs.Replies.{fieldMost, replyMost, field, replyLine};
 use sets::Mask;
 
 // The five numbers: current is G, 0 if stopped; online is R; byte is the first byte read, 0 unless a read was done.
@@ -19,9 +19,9 @@ pub const REPLY_MOST: usize = 30;
 
 // Stores a number and the byte that ends it, and gives the place behind them.
 fn put_field(out: &mut [u8], at: usize, n: u16, end: u8) -> usize
-    requires { ⌜ at + 6 ≤ length (now out) ⌝ }
+    requires { ⌜ at + fieldMost ≤ length (now out) ⌝ }
     ensures { λ r. ⌜ Stored at (field n end) (now (out .entry)) r (now (out .exit)) ⌝ }
-    ensures { λ r. ⌜ r ≤ at + 6 ⌝ }
+    ensures { λ r. ⌜ r ≤ at + fieldMost ⌝ }
 {
     let last = decimal::put(out, at, n);
     out[last] = end;

@@ -1,7 +1,7 @@
 -- What blocks of input print is the transcript of the whole: byte by byte, and line by line. Assumes nothing.
 use mathlib.Core.Path.{_≡_, refl, sym, _∙_}
 use mathlib.Core.Bool.{true, false, cond}
-use mathlib.Core.List.{List, [], _∷_, _++_, append-assoc, append-nil}
+use mathlib.Core.List.{List, [], _∷_, _++_, flatten, append-assoc, append-nil}
 use Prim.Native.Nat.{ℕ}
 use lib.Dec.{eqb, eqb·suc-zero}
 use lib.ListN.{length, take}
@@ -9,7 +9,7 @@ use Rattle.sets.proofs.Tests.{Test, test, passes, fails}
 use Rattle.commands.specs.Commands.{onFirst, lineMost}
 use Rattle.replies.specs.Replies.{replyLine}
 use Rattle.turns.specs.Turns.{Machine}
-use Rattle.shell.specs.Dialogue.{heldMost, lines, heard, answers, transcript, Dialogue, next, printed, after, says, last, opening, joinedBlocks, saysBlocks, BlocksGiveTranscript}
+use Rattle.shell.specs.Dialogue.{heldMost, lines, heard, answers, transcript, Dialogue, next, printed, after, says, last, opening, saysBlocks, BlocksGiveTranscript}
 use Rattle.shell.proofs.Held.{same-command, held-take}
 use Rattle.shell.proofs.Blocks.{after-append, says-append}
 
@@ -84,14 +84,14 @@ by-lines (x ∷ input) line m =
 
 -- ---- blocks
 
-by-blocks : (blocks : List (List ℕ)) (d : Dialogue) → saysBlocks blocks d ≡ whole (joinedBlocks blocks) d
-unfolding saysBlocks joinedBlocks says after
+by-blocks : (blocks : List (List ℕ)) (d : Dialogue) → saysBlocks blocks d ≡ whole (flatten blocks) d
+unfolding saysBlocks flatten says after
 by-blocks [] d = refl
 by-blocks (block ∷ later) d =
-    rw (says-append block (joinedBlocks later) d, after-append block (joinedBlocks later) d, by-blocks later (after block d))
+    rw (says-append block (flatten later) d, after-append block (flatten later) d, by-blocks later (after block d))
     (sym (append-assoc (says block d) _ _))
 
 pub blocks-give-transcript : BlocksGiveTranscript
 unfolding transcript
 blocks-give-transcript memory blocks =
-    by-blocks blocks (opening memory) ∙ by-lines (joinedBlocks blocks) [] _ ∙ rw (lines-with (joinedBlocks blocks) [])
+    by-blocks blocks (opening memory) ∙ by-lines (flatten blocks) [] _ ∙ rw (lines-with (flatten blocks) [])

@@ -1,7 +1,7 @@
 -- Document 01, "The cabinet program": lines in, lines out. First as the paper has it, over the lines of a whole input; then byte by byte, as input comes.
 use mathlib.Core.Path.{_≡_}
 use mathlib.Core.Bool.{cond}
-use mathlib.Core.List.{List, [], _∷_, _++_}
+use mathlib.Core.List.{List, [], _∷_, _++_, flatten}
 use Prim.Native.Nat.{ℕ, _+_}
 use lib.Dec.{eqb, ltb}
 use lib.ListN.{length, take}
@@ -82,10 +82,6 @@ opening memory = record { machine = record { state = zeroState; memory = memory 
 
 -- ---- the program's input comes in blocks, cut anywhere
 
-unfoldable pub joinedBlocks : List (List ℕ) → List ℕ
-joinedBlocks [] = []
-joinedBlocks (block ∷ later) = block ++ joinedBlocks later
-
 -- what is printed block by block
 unfoldable pub saysBlocks : List (List ℕ) → Dialogue → List ℕ
 saysBlocks [] d = last d
@@ -93,7 +89,7 @@ saysBlocks (block ∷ later) d = says block d ++ saysBlocks later (after block d
 
 -- However the input is cut into blocks, what is printed is the transcript of the whole.
 abbrev pub BlocksGiveTranscript : Type 0
-BlocksGiveTranscript = (memory : List ℕ) (blocks : List (List ℕ)) → saysBlocks blocks (opening memory) ≡ transcript memory (joinedBlocks blocks)
+BlocksGiveTranscript = (memory : List ℕ) (blocks : List (List ℕ)) → saysBlocks blocks (opening memory) ≡ transcript memory (flatten blocks)
 
 -- ---- the same in the code's buffers
 

@@ -84,7 +84,8 @@ fn take_byte(x: u8, h: Shell, line: &mut [u8], memory: &mut [u8], out: &mut [u8]
     hold(x, h, line)
 }
 
-// Takes a block of input, cut anywhere. What its lines print stands in the output behind what was there.
+// Takes a block of input, cut anywhere. What its lines print stands in the output behind what was there. What the line's
+// buffer has beyond the bytes that are held, nobody reads, and nothing is said of it.
 pub fn serve(block: &[u8], h: Shell, line: &mut [u8], memory: &mut [u8], out: &mut [u8]) -> Shell
     requires { ⌜ (h .held ≤ heldMost) × (length (now line) ≡ heldMost) × (h .used + length (now block) * replyMost ≤ length (now out)) ⌝ }
     ensures dialogue { λ r. ⌜ dialogue r (now (line .exit)) (now (memory .exit)) ≡ after (now (block .entry)) (dialogue h (now (line .entry)) (now (memory .entry))) ⌝ }
