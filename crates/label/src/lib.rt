@@ -12,6 +12,7 @@ pub use writer::write;
 
 // "Each disk has a label: the committed set C, the tentative set T (0 means none), and the dirty map, bit r for region r. C
 // of 0 means the disk has never been a member."
+#[repr(C)]
 pub struct Label {
     pub committed: Mask,
     pub tentative: Mask,

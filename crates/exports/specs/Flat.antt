@@ -1,0 +1,36 @@
+-- A state and what a call yields, as programs in C and Rust hold them.
+use mathlib.Core.Bool.{cond}
+use mathlib.Core.List.{List}
+use Prim.Native.Nat.{ℕ}
+use lib.Dec.{eqb}
+use Rattle.protocol.specs.declared.Power.{Power}
+use Rattle.protocol.specs.declared.Power.the-variants.{Stopped, Running}
+use Rattle.protocol.specs.declared.State.{State}
+use Rattle.protocol.specs.declared.Answer.{Answer}
+use Rattle.protocol.specs.States.{currentOf}
+use Rattle.protocol.specs.Outcomes.{Outcome}
+use Rattle.exports.specs.declared.flat.FlatState.{FlatState}
+use Rattle.exports.specs.declared.flat.FlatAnswer.{FlatAnswer}
+
+-- "either running with a current set G, or stopped with none": no current set is written 0, as the cabinet program prints it
+unfoldable pub powerOf : ℕ → Power
+powerOf g = cond (eqb g 0) Stopped (Running g)
+
+-- the state that a flat one stands for
+unfoldable pub opened : FlatState → State
+opened f = record { disks = f .disks; blocks = f .blocks; labels = f .labels; online = f .online; power = powerOf (f .current) }
+
+unfoldable pub flat : State → FlatState
+flat s = record { disks = s .disks; blocks = s .blocks; online = s .online; current = currentOf (s .power); labels = s .labels }
+
+unfoldable pub flatAnswer : Answer → FlatAnswer
+flatAnswer a = record { stores = a .stores; refusal = a .refusal; state = flat (a .state) }
+
+-- what a program outside sees of a call
+pub record Seen : Type 0 where
+  pub answer : FlatAnswer
+  pub area : List ℕ
+  pub output : List ℕ
+
+unfoldable pub seen : Outcome → Seen
+seen o = record { answer = flatAnswer (o .answer); area = o .area; output = o .output }

@@ -1,0 +1,76 @@
+// States and answers as programs in C and Rust hold them: numbers only, laid out as C does.
+ghost use mathlib.Core.Path.{_≡_};
+ghost use Rattle.exports.specs.Flat.{powerOf, opened, flat, flatAnswer};
+use label::Label;
+use protocol::Answer;
+use protocol::Power;
+use protocol::State;
+use sets::DISKS;
+use sets::Mask;
+
+// A state without its enum: `current` is G, and 0 when the cabinet is stopped. A running cabinet with no current disk is
+// not sound, so nothing is lost.
+#[repr(C)]
+pub struct FlatState {
+    pub disks: u8,
+    pub blocks: u8,
+    pub online: Mask,
+    pub current: Mask,
+    pub labels: [Label; DISKS],
+}
+
+// The answer of every exported call.
+#[repr(C)]
+pub struct FlatAnswer {
+    pub stores: u16,
+    pub refusal: u8,
+    pub state: FlatState,
+}
+
+fn power_of(current: Mask) -> Power
+    ensures { λ r. ⌜ r ≡ powerOf current ⌝ }
+{
+    if current == 0 {
+        Power::Stopped
+    } else {
+        Power::Running(current)
+    }
+}
+
+pub(crate) fn opened(f: FlatState) -> State
+    ensures { λ r. ⌜ r ≡ opened f ⌝ }
+{
+    let labels = f.labels;
+    State {
+        disks: f.disks,
+        blocks: f.blocks,
+        labels: labels,
+        online: f.online,
+        power: power_of(f.current),
+    }
+}
+
+fn flat(s: State) -> FlatState
+    ensures { λ r. ⌜ r ≡ flat s ⌝ }
+{
+    let labels = s.labels;
+    let power = s.power;
+    FlatState {
+        disks: s.disks,
+        blocks: s.blocks,
+        online: s.online,
+        current: state::current(power),
+        labels: labels,
+    }
+}
+
+pub(crate) fn flat_answer(answer: Answer) -> FlatAnswer
+    ensures { λ r. ⌜ r ≡ flatAnswer answer ⌝ }
+{
+    let s = answer.state;
+    FlatAnswer {
+        stores: answer.stores,
+        refusal: answer.refusal,
+        state: flat(s),
+    }
+}
