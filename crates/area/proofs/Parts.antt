@@ -1,5 +1,5 @@
 -- Bytes stored one after the other, and parts of the area. Assumes nothing.
-use mathlib.Core.Path.{_≡_, sym, _∙_}
+use mathlib.Core.Path.{_≡_, sym, ap, _∙_}
 use mathlib.Core.List.{List, _++_, append-assoc, append-nil}
 use Prim.Native.Nat.{ℕ, _+_, _*_, _-_, _≤_, _<_}
 use native.Mathlib.Nat.{zero-add, add-assoc}
@@ -10,7 +10,7 @@ use lib.Seq.{paste, paste-suc, take-length, drop-length, drop-append-le, take-ap
 use borrow.Rule.Slice.PartMut.{midOf, putMid}
 use Rattle.label.specs.Writing.{splice}
 use Rattle.protocol.specs.Geometry.{blockSize, place, block, withBlock}
-use Rattle.area.specs.Parts.{InArea}
+use Rattle.area.specs.Parts.{InArea, InPart}
 
 -- ---- byte by byte
 
@@ -52,6 +52,18 @@ module _ (whole : List ℕ) (a n : ℕ) (fits : a + n ≤ length whole) where
   loaded at size h =
       let l : size ≤ length (drop at (midOf a n whole)) = simp (length-drop, length-take, length-drop) (omega arith) in
       sym (take-append-le size (drop at (midOf a n whole)) (drop n (drop a whole)) l) ∙ rw (behind at (omega arith))
+
+-- ---- a block by itself
+
+pub alone : (part : List ℕ) → length part ≡ blockSize → InPart 0 part
+alone part full = record { known = omega arith; whole = omega arith }
+
+pub alone-loaded : (part : List ℕ) → length part ≡ blockSize → take blockSize (drop (0 * blockSize) part) ≡ part
+alone-loaded part full = ap (λ n. take n part) (sym full) ∙ take-length part
+
+pub alone-stored : (part bytes : List ℕ) → length part ≡ blockSize → length bytes ≡ blockSize → splice (0 * blockSize) bytes part ≡ bytes
+unfolding splice
+alone-stored part bytes full fits = rw (zero-add, fits ∙ sym full, drop-length, append-nil)
 
 -- ---- block k in the part of disk d, from where that disk starts to where the next one does
 

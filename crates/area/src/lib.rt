@@ -1,4 +1,5 @@
-// Blocks in the disk area: the only code that computes where a block stands.
+// Blocks in the disk area: the only code that computes where a block stands. A block on its way is held by value: a copy
+// from one lent buffer to another goes byte by byte, since compiled code must reckon that they overlap.
 ghost use mathlib.Core.Path.{_≡_};
 ghost use Prim.Native.Nat.{_*_, _≤_, _<_};
 ghost use lib.Dec.{eqb};
@@ -16,23 +17,25 @@ fn start(blocks: usize, d: usize) -> usize
     d * blocks * BLOCK_SIZE
 }
 
-// Block k of one disk's part, to the output.
-fn load_block(part: &[u8], k: usize, output: &mut [u8])
-    requires { ⌜ InPart k (now part) × (length (now output) ≡ blockSize) ⌝ }
-    ensures { λ _. ⌜ now (output .exit) ≡ take blockSize (drop (k * blockSize) (now (part .entry))) ⌝ }
+// Block k of some bytes: of one disk's part, or of a block lent by itself.
+fn load_block(part: &[u8], k: usize) -> [u8; BLOCK_SIZE]
+    requires { ⌜ InPart k (now part) ⌝ }
+    ensures { λ r. ⌜ r ≡ take blockSize (drop (k * blockSize) (now (part .entry))) ⌝ }
 {
     let at = k * BLOCK_SIZE;
+    let mut bytes = [0u8; BLOCK_SIZE];
     let mut i = 0;
     while i < BLOCK_SIZE {
-        output[i] = part[at + i];
+        bytes[i] = part[at + i];
         i += 1;
     }
+    bytes
 }
 
-// The bytes as block k of one disk's part.
-fn store_block(part: &mut [u8], k: usize, bytes: &[u8])
-    requires { ⌜ InPart k (now part) × (length (now bytes) ≡ blockSize) ⌝ }
-    ensures { λ _. ⌜ now (part .exit) ≡ splice (k * blockSize) (now (bytes .entry)) (now (part .entry)) ⌝ }
+// The bytes as block k of the same.
+fn store_block(part: &mut [u8], k: usize, bytes: [u8; BLOCK_SIZE])
+    requires { ⌜ InPart k (now part) ⌝ }
+    ensures { λ _. ⌜ now (part .exit) ≡ splice (k * blockSize) bytes (now (part .entry)) ⌝ }
 {
     let at = k * BLOCK_SIZE;
     let mut i = 0;
@@ -42,24 +45,40 @@ fn store_block(part: &mut [u8], k: usize, bytes: &[u8])
     }
 }
 
-// Block k of disk d, to the output. "the work on one disk gets only that disk's part of the area"
-pub fn load(area: &[u8], blocks: usize, d: usize, k: usize, output: &mut [u8])
-    requires { ⌜ InArea blocks d k (now area) × (length (now output) ≡ blockSize) ⌝ }
-    ensures { λ _. ⌜ now (output .exit) ≡ block blocks (now (area .entry)) d k ⌝ }
+// Block k of disk d. "the work on one disk gets only that disk's part of the area"
+pub fn load(area: &[u8], blocks: usize, d: usize, k: usize) -> [u8; BLOCK_SIZE]
+    requires { ⌜ InArea blocks d k (now area) ⌝ }
+    ensures { λ r. ⌜ r ≡ block blocks (now (area .entry)) d k ⌝ }
 {
     let from = start(blocks, d);
     let to = start(blocks, d + 1);
-    load_block(&area[from..to], k, output);
+    load_block(&area[from..to], k)
 }
 
 // The bytes as block k of disk d.
-pub fn store(area: &mut [u8], blocks: usize, d: usize, k: usize, bytes: &[u8])
-    requires { ⌜ InArea blocks d k (now area) × (length (now bytes) ≡ blockSize) ⌝ }
-    ensures { λ _. ⌜ now (area .exit) ≡ withBlock blocks (now (area .entry)) d k (now (bytes .entry)) ⌝ }
+pub fn store(area: &mut [u8], blocks: usize, d: usize, k: usize, bytes: [u8; BLOCK_SIZE])
+    requires { ⌜ InArea blocks d k (now area) ⌝ }
+    ensures { λ _. ⌜ now (area .exit) ≡ withBlock blocks (now (area .entry)) d k bytes ⌝ }
 {
     let from = start(blocks, d);
     let to = start(blocks, d + 1);
     store_block(&mut area[from..to], k, bytes);
+}
+
+// A block that is lent by itself.
+pub fn from_slice(bytes: &[u8]) -> [u8; BLOCK_SIZE]
+    requires { ⌜ length (now bytes) ≡ blockSize ⌝ }
+    ensures { λ r. ⌜ r ≡ now (bytes .entry) ⌝ }
+{
+    load_block(bytes, 0)
+}
+
+// The bytes to an output of one block.
+pub fn to_slice(output: &mut [u8], bytes: [u8; BLOCK_SIZE])
+    requires { ⌜ length (now output) ≡ blockSize ⌝ }
+    ensures { λ _. ⌜ now (output .exit) ≡ bytes ⌝ }
+{
+    store_block(output, 0, bytes);
 }
 
 pub fn clear(area: &mut [u8])

@@ -5,12 +5,11 @@ use mathlib.Core.Bool.{Bool, true, false, cond, _||_, or-true}
 use mathlib.Core.List.{List, [], _∷_, _++_, append-nil, append-assoc}
 use Prim.Native.Nat.{ℕ, zero, suc, _+_, _≤_, _<_}
 use native.Mathlib.Omega.{arith}
-use lib.Dec.{eqb, ltb}
+use lib.Dec.{ltb}
 use lib.ListN.{length, take, length-append}
-use borrow.Author.Tests.{eqb-true, eqb-false, ltb-true, ltb-false, lt-ltb, le-ltb}
-use Rattle.sets.specs.Sets.{has, singleton, below, size, members}
+use borrow.Author.Tests.{ltb-true, ltb-false, lt-ltb, le-ltb}
+use Rattle.sets.specs.Sets.{has, below, size, members}
 use Rattle.sets.proofs.Tests.{Test, passes, fails, test, clash, and-parts, or-either, implied, implies, same-or-not, same-test}
-use Rattle.sets.proofs.Operations.{has-singleton}
 use Rattle.sets.proofs.Bounds.{below-pow}
 use Rattle.sets.proofs.Cardinality.{size-members}
 use Rattle.protocol.specs.Loops.{ascending, forEach, allBelow, someBelow, every, some}
@@ -173,19 +172,6 @@ pub same-turns : {A : Type 0} (n : ℕ) (f g : ℕ → List A) → ((i : ℕ) �
 unfolding ascending
 same-turns zero f g same = refl
 same-turns (suc n) f g same = rw (same-turns n f g (λ i l. same i (omega arith)), same n (omega arith))
-
--- a loop over one disk
-pub for-one : {A : Type 0} (n d : ℕ) (f : ℕ → List A) → d < n → forEach n (singleton d) f ≡ f d
-unfolding forEach ascending
-for-one n d f below = alone n ∙ rw (lt-ltb d n below)
-  where
-    last : (i : ℕ) (t : Bool) → eqb i d ≡ t → cond (ltb d i) (f d) [] ++ cond t (f i) [] ≡ cond (ltb d (suc i)) (f d) []
-    last i true e = rw (eqb-true i d e, le-ltb d d (omega arith), lt-ltb d (suc d) (omega arith))
-    last i false e = rw (not-last d i (λ z. eqb-false i d e (sym z))) (append-nil _)
-
-    alone : (i : ℕ) → ascending i (λ e. cond (has (singleton d) e) (f e) []) ≡ cond (ltb d i) (f d) []
-    alone zero = rw (le-ltb d 0 (omega arith))
-    alone (suc i) = rw (alone i, has-singleton d i) (last i (eqb i d) refl)
 
 -- a loop that gives nothing from m on
 pub until : {A : Type 0} (n m : ℕ) (f : ℕ → List A) → ascending n (λ i. cond (ltb i m) (f i) []) ≡ ascending (cond (ltb m n) m n) f

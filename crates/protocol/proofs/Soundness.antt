@@ -1,7 +1,7 @@
 -- The test of soundness passes exactly where every part of soundness holds. Assumes nothing.
 use mathlib.Core.Path.{_≡_, refl}
 use mathlib.Core.Logic.{_⊎_, inl, inr, _↔_}
-use mathlib.Core.Bool.{Bool, true, false, not, _&&_, _||_, or-true}
+use mathlib.Core.Bool.{true, false, not, _&&_, _||_, or-true}
 use mathlib.Core.List.{List}
 use Prim.Native.Nat.{ℕ, _≤_, _<_}
 use native.Mathlib.Omega.{arith}
@@ -23,7 +23,7 @@ use Rattle.protocol.specs.States.{blank, labelAt, currentOf, live}
 use Rattle.protocol.specs.Soundness.{Sound, InRange, FitSet, FitLabel, FitLabels, FitPower, inRange, fitSet, fitLabel, isBlank, fitLabels, fitMember, fitPower, sound, TestAgrees}
 use Rattle.protocol.proofs.Loops.{all-at, all-of}
 
-in-range : (n b : ℕ) → (inRange n b ≡ true) ↔ InRange n b
+pub in-range : (n b : ℕ) → (inRange n b ≡ true) ↔ InRange n b
 unfolding inRange
 in-range n b = (
   λ e.
@@ -39,12 +39,9 @@ pub not-outside : (n b : ℕ) → InRange n b → outside narrow n ≡ false
 unfolding outside
 not-outside n b h = rw (le-ltb n 1 (h .some-disk), le-ltb mostDisks n (h .disks))
 
-fit-set : (n d s : ℕ) → (fitSet n d s ≡ true) ↔ FitSet n d s
-unfolding fitSet
-fit-set n d s = (
-  λ e. let (p, q) = and-parts (below s n) (eqb s 0 || has s d) e in record { known = p; own = own (or-either (eqb s 0) (has s d) q) },
-  λ h. rw (h .known) (back (h .own)),
-)
+-- "a C or T that is not 0 names its own disk"
+pub own-disk : (d s : ℕ) → ((eqb s 0 || has s d) ≡ true) ↔ ((s ≡ 0) ⊎ (has s d ≡ true))
+own-disk d s = (λ e. own (or-either (eqb s 0) (has s d) e), back)
   where
     own : (eqb s 0 ≡ true) ⊎ (has s d ≡ true) → (s ≡ 0) ⊎ (has s d ≡ true)
     own (inl e) = inl (eqb-true s 0 e)
@@ -53,6 +50,13 @@ fit-set n d s = (
     back : (s ≡ 0) ⊎ (has s d ≡ true) → (eqb s 0 || has s d) ≡ true
     back (inl e) = rw (eq-eqb s 0 e)
     back (inr e) = rw e (or-true (eqb s 0))
+
+fit-set : (n d s : ℕ) → (fitSet n d s ≡ true) ↔ FitSet n d s
+unfolding fitSet
+fit-set n d s = (
+  λ e. let (p, q) = and-parts (below s n) (eqb s 0 || has s d) e in record { known = p; own = own-disk d s .0 q },
+  λ h. rw (h .known) (own-disk d s .1 (h .own)),
+)
 
 fit-label : (n b d : ℕ) (l : Label) → (fitLabel n b d l ≡ true) ↔ FitLabel n b d l
 unfolding fitLabel
@@ -64,7 +68,7 @@ fit-label n b d l = (
   λ h. rw (fit-set n d (l .committed) .1 (h .committed), fit-set n d (l .tentative) .1 (h .tentative), h .dirty),
 )
 
-is-blank : (l : Label) → (isBlank l ≡ true) ↔ (l ≡ blank)
+pub is-blank : (l : Label) → (isBlank l ≡ true) ↔ (l ≡ blank)
 unfolding isBlank
 is-blank l = (
   λ e.
@@ -77,6 +81,18 @@ is-blank l = (
     zeros : (c t m : ℕ) → c ≡ 0 → t ≡ 0 → m ≡ 0 → _≡_ {A = Label} (record { committed = c; tentative = t; dirty = m }) blank
     zeros c t m p q r = cc
 
+-- "labels from n up are all zero"
+blank-from : (n d : ℕ) (l : Label) → ((ltb d n || isBlank l) ≡ true) ↔ (n ≤ d → l ≡ blank)
+blank-from n d l = (λ e h. past h (or-either (ltb d n) (isBlank l) e), λ h. unless h (decLt d n))
+  where
+    past : n ≤ d → (ltb d n ≡ true) ⊎ (isBlank l ≡ true) → l ≡ blank
+    past h (inl e) = absurd (omega (arith, ltb-true d n e))
+    past h (inr e) = is-blank l .0 e
+
+    unless : (n ≤ d → l ≡ blank) → Dec (d < n) → (ltb d n || isBlank l) ≡ true
+    unless h (yes p) = rw (lt-ltb d n p)
+    unless h (no g) = rw (is-blank l .1 (h (omega arith))) (or-true (ltb d n))
+
 fit-labels : (n b : ℕ) (labels : List Label) → (fitLabels n b labels ≡ true) ↔ FitLabels n b labels
 unfolding fitLabels
 fit-labels n b labels = (
@@ -84,37 +100,30 @@ fit-labels n b labels = (
       let (p, q) = and-parts (allBelow n (λ d. fitLabel n b d (labelAt labels d))) (allBelow mostDisks (λ d. ltb d n || isBlank (labelAt labels d))) e in
       record {
         each = λ d l. fit-label n b d _ .0 (all-at n _ p d l);
-        rest = λ d g l. is-blank _ .0 (past d g (or-either (ltb d n) _ (all-at mostDisks _ q d l)));
+        rest = λ d g l. blank-from n d _ .0 (all-at mostDisks _ q d l) g;
       },
-  λ h. rw (all-of n (λ d. fitLabel n b d (labelAt labels d)) (λ d l. fit-label n b d _ .1 (h .each d l))) (all-of mostDisks _ (λ d l. unless d (h .rest d) l (decLt d n))),
+  λ h. rw (all-of n (λ d. fitLabel n b d (labelAt labels d)) (λ d l. fit-label n b d _ .1 (h .each d l))) (all-of mostDisks _ (λ d l. blank-from n d _ .1 (λ g. h .rest d g l))),
 )
-  where
-    past : (d : ℕ) → n ≤ d → {t : Bool} → (ltb d n ≡ true) ⊎ (t ≡ true) → t ≡ true
-    past d g (inl e) = absurd (omega (arith, ltb-true d n e))
-    past d g (inr e) = e
 
-    unless : (d : ℕ) → (n ≤ d → d < mostDisks → labelAt labels d ≡ blank) → d < mostDisks → Dec (d < n) → (ltb d n || isBlank (labelAt labels d)) ≡ true
-    unless d h l (yes p) = rw (lt-ltb d n p)
-    unless d h l (no g) = rw (le-ltb d n (omega arith)) (is-blank _ .1 (h (omega arith) l))
-
-fit-member : (labels : List Label) (g d : ℕ) → (fitMember labels g d ≡ true) ↔ (((labelAt labels d) .committed ≡ g) × ((labelAt labels d) .tentative ≡ 0))
-unfolding fitMember
-fit-member labels g d = (
-  λ e. let (p, q) = and-parts (eqb ((labelAt labels d) .committed) g) (eqb ((labelAt labels d) .tentative) 0) e in (eqb-true _ _ p, eqb-true _ _ q),
-  λ h. rw (eq-eqb _ _ (h .0), eq-eqb _ _ (h .1)),
+-- "each member has C = G and T = 0"
+fit-member : (g d : ℕ) (l : Label)
+    → ((not (has g d) || (eqb (l .committed) g && eqb (l .tentative) 0)) ≡ true) ↔ (has g d ≡ true → (l .committed ≡ g) × (l .tentative ≡ 0))
+fit-member g d l = (
+  λ e m. let (p, q) = and-parts (eqb (l .committed) g) (eqb (l .tentative) 0) (implies (has g d) _ e m) in (eqb-true _ _ p, eqb-true _ _ q),
+  λ h. implied (has g d) _ (λ m. rw (eq-eqb _ _ (h m .0), eq-eqb _ _ (h m .1))),
 )
 
 fit-power : (n : ℕ) (labels : List Label) (power : Power) → (fitPower n labels power ≡ true) ↔ FitPower n labels power
-unfolding fitPower
+unfolding fitPower fitMember
 fit-power n labels Stopped = (λ e. tt, λ h. refl)
 fit-power n labels (Running g) = (
   λ e.
       let (p, e1) = and-parts (below g n) (ltb 0 g && allBelow n (λ d. not (has g d) || fitMember labels g d)) e in
       let (q, r) = and-parts (ltb 0 g) (allBelow n (λ d. not (has g d) || fitMember labels g d)) e1 in
-      record { known = p; filled = ltb-true _ _ q; members = λ d l m. fit-member labels g d .0 (implies (has g d) _ (all-at n _ r d l) m) },
+      record { known = p; filled = ltb-true _ _ q; members = λ d l. fit-member g d (labelAt labels d) .0 (all-at n _ r d l) },
   λ h.
       rw (h .known, lt-ltb 0 g (h .filled))
-      (all-of n _ (λ d l. implied (has g d) (fitMember labels g d) (λ m. fit-member labels g d .1 (h .members d l m)))),
+      (all-of n _ (λ d l. fit-member g d (labelAt labels d) .1 (h .members d l))),
 )
 
 pub test-agrees : TestAgrees

@@ -1,7 +1,7 @@
 -- A set that names only disks below n. Assumes nothing.
 use mathlib.Core.Path.{_≡_, sym, _∙_}
 use mathlib.Core.Logic.{_↔_, _⊎_, inl, inr}
-use mathlib.Core.Bool.{true, not}
+use mathlib.Core.Bool.{true, not, or-true}
 use Prim.Native.Nat.{ℕ, _+_, _/_, _^_, _<_}
 use native.Mathlib.Nat.{div-lt-iff-lt-mul, div-eq-of-lt, one-mul}
 use native.Mathlib.Decide.{decLt}
@@ -61,6 +61,20 @@ below-intersection a b n = below-inside (intersection a b) b n (λ d m. and-part
 
 pub below-difference : (a b n : ℕ) → below a n ≡ true → below (difference a b) n ≡ true
 below-difference a b n = below-inside (difference a b) a n (λ d m. and-parts (has a d) (not (has b d)) (sym (has-difference a b d) ∙ m) .0)
+
+-- a union does where both its parts do, and only there
+pub below-union : (a b n : ℕ) → (below (union a b) n ≡ true) ↔ ((below a n ≡ true) × (below b n ≡ true))
+below-union a b n = (
+  λ h. (
+    below-inside a (union a b) n (λ d m. has-union a b d ∙ rw m) h,
+    below-inside b (union a b) n (λ d m. has-union a b d ∙ rw m (or-true (has a d))) h,
+  ),
+  λ h. below-members (union a b) n .1 (λ d m. go h d (or-either (has a d) (has b d) (sym (has-union a b d) ∙ m))),
+)
+  where
+    go : (below a n ≡ true) × (below b n ≡ true) → (d : ℕ) → (has a d ≡ true) ⊎ (has b d ≡ true) → d < n
+    go h d (inl m) = below-members a n .0 (h .0) d m
+    go h d (inr m) = below-members b n .0 (h .1) d m
 
 -- with one more disk below n
 pub below-with : (a d n : ℕ) → below a n ≡ true → d < n → below (union a (singleton d)) n ≡ true

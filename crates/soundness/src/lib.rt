@@ -1,34 +1,19 @@
-// "A state is sound when", test by test.
+// "A state is sound when", clause by clause. The sets that must name only disks below n are tested together, as one union, and
+// each loop goes over all eight labels, so that compiled code knows the disk at each turn: every call begins with this test.
 ghost use mathlib.Core.Path.{_≡_};
-ghost use mathlib.Core.Bool.{not, _||_};
-ghost use lib.Dec.{ltb};
-ghost use Rattle.sets.specs.Sets.{has};
 ghost use Rattle.protocol.specs.Geometry.{mostDisks};
 ghost use Rattle.protocol.specs.Loops.{allBelow};
 ghost use Rattle.protocol.specs.States.{labelAt};
-ghost use Rattle.protocol.specs.Soundness.{inRange, fitSet, fitLabel, isBlank, fitLabels, fitMember, fitPower, sound};
+ghost use Rattle.protocol.specs.Soundness.{inRange, isBlank, sound};
+ghost use Rattle.soundness.specs.Clauses.{namedBelow, dirtyBelow, ownDisk, fitAlone, filled};
 use label::Label;
 use protocol::Power;
 use protocol::State;
 use protocol::geometry::MOST_BLOCKS;
 use sets::DISKS;
 use sets::Mask;
+use state::current;
 use state::regions;
-
-// The label of a disk, all zero past the end: an unsound state may count more disks than the array has.
-fn label_at(labels: [Label; DISKS], d: usize) -> Label
-    ensures { λ r. ⌜ r ≡ labelAt labels d ⌝ }
-{
-    if d < DISKS {
-        labels[d]
-    } else {
-        Label {
-            committed: 0,
-            tentative: 0,
-            dirty: 0,
-        }
-    }
-}
 
 // "n and b are in range"
 fn in_range(n: usize, b: usize) -> bool
@@ -37,20 +22,39 @@ fn in_range(n: usize, b: usize) -> bool
     (1 <= n) & ((n <= DISKS) & ((1 <= b) & (b <= MOST_BLOCKS)))
 }
 
-// "every C and every T name only disks below n; a C or T that is not 0 names its own disk"
-fn fit_set(n: usize, d: usize, set: Mask) -> bool
-    ensures { λ r. ⌜ r ≡ fitSet n d set ⌝ }
+// The disks that "every C and every T" name.
+fn named(labels: [Label; DISKS]) -> Mask
+    ensures { λ r. ⌜ r ≡ namedBelow mostDisks labels ⌝ }
 {
-    sets::below(set, n) & ((set == 0) | sets::has(set, d))
+    let mut set = 0;
+    let mut d = 0;
+    while d < DISKS {
+        let l = labels[d];
+        set = sets::union(set, sets::union(l.committed, l.tentative));
+        d += 1;
+    }
+    set
 }
 
-// The label of disk d; "dirty bits name existing regions".
-fn fit_label(n: usize, b: usize, d: usize, l: Label) -> bool
-    ensures { λ r. ⌜ r ≡ fitLabel n b d l ⌝ }
+// The regions that are dirty on any disk.
+fn dirty(labels: [Label; DISKS]) -> Mask
+    ensures { λ r. ⌜ r ≡ dirtyBelow mostDisks labels ⌝ }
 {
-    let committed = fit_set(n, d, l.committed);
-    let tentative = fit_set(n, d, l.tentative);
-    committed & (tentative & sets::below(l.dirty, regions(b)))
+    let mut set = 0;
+    let mut d = 0;
+    while d < DISKS {
+        let l = labels[d];
+        set = sets::union(set, l.dirty);
+        d += 1;
+    }
+    set
+}
+
+// "a C or T that is not 0 names its own disk"
+fn own_disk(d: usize, set: Mask) -> bool
+    ensures { λ r. ⌜ r ≡ ownDisk d set ⌝ }
+{
+    (set == 0) | sets::has(set, d)
 }
 
 fn is_blank(l: Label) -> bool
@@ -59,63 +63,39 @@ fn is_blank(l: Label) -> bool
     (l.committed == 0) & ((l.tentative == 0) & (l.dirty == 0))
 }
 
-fn each_fit(n: usize, b: usize, labels: [Label; DISKS]) -> bool
-    ensures { λ r. ⌜ r ≡ allBelow n (λ d. fitLabel n b d (labelAt labels d)) ⌝ }
+// The label of disk d: of a member "C = G and T = 0", which names the disk as G does; of another disk below n what its own
+// sets say; "labels from n up are all zero".
+fn fit_alone(n: usize, g: Mask, d: usize, l: Label) -> bool
+    ensures { λ r. ⌜ r ≡ fitAlone n g d l ⌝ }
 {
-    let mut fit = true;
-    let mut d = 0;
-    while d < n {
-        fit = fit & fit_label(n, b, d, label_at(labels, d));
-        d += 1;
+    if sets::has(g, d) {
+        return (l.committed == g) & (l.tentative == 0);
     }
-    fit
+    if d < n {
+        return own_disk(d, l.committed) & own_disk(d, l.tentative);
+    }
+    is_blank(l)
 }
 
-// "labels from n up are all zero"
-fn rest_blank(n: usize, labels: [Label; DISKS]) -> bool
-    ensures { λ r. ⌜ r ≡ allBelow mostDisks (λ d. ltb d n || isBlank (labelAt labels d)) ⌝ }
+fn each_fit(n: usize, g: Mask, labels: [Label; DISKS]) -> bool
+    ensures { λ r. ⌜ r ≡ allBelow mostDisks (λ d. fitAlone n g d (labelAt labels d)) ⌝ }
 {
     let mut fit = true;
     let mut d = 0;
     while d < DISKS {
-        fit = fit & ((d < n) | is_blank(label_at(labels, d)));
+        fit = fit & fit_alone(n, g, d, labels[d]);
         d += 1;
     }
     fit
 }
 
-fn fit_labels(n: usize, b: usize, labels: [Label; DISKS]) -> bool
-    ensures { λ r. ⌜ r ≡ fitLabels n b labels ⌝ }
-{
-    each_fit(n, b, labels) & rest_blank(n, labels)
-}
-
-fn fit_member(labels: [Label; DISKS], g: Mask, d: usize) -> bool
-    ensures { λ r. ⌜ r ≡ fitMember labels g d ⌝ }
-{
-    let l = label_at(labels, d);
-    (l.committed == g) & (l.tentative == 0)
-}
-
-// "each member has C = G and T = 0"
-fn fit_members(n: usize, labels: [Label; DISKS], g: Mask) -> bool
-    ensures { λ r. ⌜ r ≡ allBelow n (λ d. not (has g d) || fitMember labels g d) ⌝ }
-{
-    let mut fit = true;
-    let mut d = 0;
-    while d < n {
-        fit = fit & (!sets::has(g, d) | fit_member(labels, g, d));
-        d += 1;
-    }
-    fit
-}
-
-fn fit_power(n: usize, labels: [Label; DISKS], power: Power) -> bool
-    ensures { λ r. ⌜ r ≡ fitPower n labels power ⌝ }
+// "when running, G is not empty"
+fn filled(power: Power) -> bool
+    ensures { λ r. ⌜ r ≡ filled power ⌝ }
 {
     match power {
         Power::Stopped => true,
-        Power::Running(g) => sets::below(g, n) & ((0 < g) & fit_members(n, labels, g)),
+        Power::Running(g) => 0 < g,
     }
 }
 
@@ -126,6 +106,9 @@ pub fn sound(s: State) -> bool
     let b = s.blocks as usize;
     let labels = s.labels;
     let power = s.power;
-    in_range(n, b)
-        & (sets::below(s.online, n) & (fit_labels(n, b, labels) & fit_power(n, labels, power)))
+    let g = current(power);
+    let all = sets::union(sets::union(s.online, g), named(labels));
+    let regions_known = sets::below(dirty(labels), regions(b));
+    let alone = each_fit(n, g, labels);
+    in_range(n, b) & (sets::below(all, n) & (regions_known & (alone & filled(power))))
 }

@@ -1,17 +1,14 @@
 -- What a call that is not refused knows, before its first store. Assumes nothing.
-use mathlib.Core.Path.{_≡_, refl, _∙_}
-use mathlib.Core.Bool.{false}
+use mathlib.Core.Path.{_≡_, refl}
 use mathlib.Core.List.{List}
 use Prim.Native.Nat.{ℕ, _<_}
 use lib.ListN.{length}
 use borrow.Author.Tests.{eqb-true, not-false}
-use Rattle.sets.specs.Sets.{has}
-use Rattle.sets.proofs.Operations.{has-intersection}
 use Rattle.label.specs.Refusals.{firstOf}
 use Rattle.label.proofs.Order.{none-at}
 use Rattle.protocol.specs.declared.State.{State}
 use Rattle.protocol.specs.Geometry.{blockSize}
-use Rattle.protocol.specs.States.{currentOf, live, source}
+use Rattle.protocol.specs.States.{live, source}
 use Rattle.protocol.specs.Calls.{blockRefusals, joinRefusals}
 use Rattle.protocol.proofs.Soundness.{test-agrees, live-known}
 use Rattle.protocol.proofs.Passing.{block-passed, join-passed}
@@ -37,7 +34,7 @@ module _ (s : State) (area : List ℕ) (k : ℕ) (bytes : List ℕ) (e : firstOf
       (in-area (s .disks) (s .blocks) _ k area (ready-fits ready) from known, full)
 
 pub join-ready : (s : State) (area : List ℕ) (d : ℕ) → firstOf (joinRefusals s area d) ≡ 0
-    → Ready s area × (0 < live s) × (d < s .disks) × (has (live s) d ≡ false)
+    → Ready s area × (0 < live s) × (d < s .disks)
 unfolding joinRefusals
 join-ready s area d e =
     let no = none-at (joinRefusals s area d) refl e in
@@ -45,5 +42,4 @@ join-ready s area d e =
       record { fit = test-agrees s .0 (not-false _ (no 0)); size = eqb-true _ _ (not-false _ (no 1)) },
       pass .some,
       pass .known,
-      has-intersection (currentOf (s .power)) (s .online) d ∙ rw (no 5),
     )

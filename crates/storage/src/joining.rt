@@ -1,9 +1,8 @@
 // Join.
 ghost use mathlib.Core.Path.{_≡_};
-ghost use mathlib.Core.Bool.{false};
 ghost use mathlib.Core.List.{List};
 ghost use Prim.Native.Nat.{ℕ, _<_};
-ghost use Rattle.sets.specs.Sets.{has, union, singleton};
+ghost use Rattle.sets.specs.Sets.{union, singleton};
 ghost use Rattle.protocol.specs.States.{live};
 ghost use Rattle.protocol.specs.Lists.{joinList};
 ghost use Rattle.protocol.specs.Outcomes.{carryOut};
@@ -23,7 +22,7 @@ use tally::started;
 
 // "if L differs from G, move to L. Copy all blocks, ascending, from the lowest member of L to d. Then move to L with d."
 fn join_stores(s: State, area: &mut [u8], d: usize, budget: u16) -> Answer
-    requires { ⌜ Ready s (now area) × (0 < live s) × (d < s .disks) × (has (live s) d ≡ false) ⌝ }
+    requires { ⌜ Ready s (now area) × (0 < live s) × (d < s .disks) ⌝ }
     ensures { λ r. ⌜ ((output : List ℕ) → record { answer = r; area = now (area .exit); output = output } ≡ carryOut (joinList s d) budget (union (live s) (singleton d)) s (now (area .entry)) output) ⌝ }
 {
     let power = s.power;
@@ -35,7 +34,7 @@ fn join_stores(s: State, area: &mut [u8], d: usize, budget: u16) -> Answer
     let joined = sets::union(live, new);
     let stores = live_length(current, live) + size.blocks + move_length(joined);
     let run = move_to_live(started(s, budget), n, current, live);
-    let run = stores::copy_blocks(run, area, size, state::source(live), new, 0, size.blocks);
+    let run = stores::copy_disk(run, area, size, state::source(live), d);
     let run = move_to(run, n, joined);
     ended(s, run, stores, joined, budget)
 }

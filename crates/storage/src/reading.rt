@@ -3,6 +3,7 @@ ghost use mathlib.Core.Path.{_≡_};
 ghost use Rattle.protocol.specs.Calls.{readOutcome};
 use crate::refusals::block_refusal;
 use area::load;
+use area::to_slice;
 use protocol::Answer;
 use protocol::State;
 use state::live;
@@ -16,7 +17,7 @@ pub fn read(s: State, area: &[u8], k: usize, output: &mut [u8]) -> Answer
     let refusal = block_refusal(s, area.len(), k, output.len());
     if refusal == 0 {
         let from = source(live(s));
-        load(area, s.blocks as usize, from, k, output);
+        to_slice(output, load(area, s.blocks as usize, from, k));
         without_stores(s, 0)
     } else {
         without_stores(s, refusal)

@@ -12,6 +12,7 @@ ghost use Rattle.tally.specs.Ready.{Ready};
 use crate::moves::live_length;
 use crate::moves::move_to_live;
 use crate::refusals::block_refusal;
+use area::from_slice;
 use protocol::Answer;
 use protocol::State;
 use protocol::geometry::REGION_SIZE;
@@ -40,7 +41,7 @@ fn write_stores(s: State, area: &mut [u8], k: usize, bytes: &[u8], budget: u16) 
     let stores = live_length(current, live) + count(unmarked) + count(live);
     let run = move_to_live(started(s, budget), n, current, live);
     let run = stores::store_labels(run, n, unmarked, Change::Mark(region));
-    let run = stores::store_blocks(run, area, size, live, k, bytes);
+    let run = stores::store_blocks(run, area, size, live, k, from_slice(bytes));
     ended(s, run, stores, live, budget)
 }
 

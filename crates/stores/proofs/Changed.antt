@@ -1,6 +1,6 @@
 -- A change on a disk is the paper's store on it. Assumes nothing.
 use mathlib.Core.Path.{_≡_, refl, sym, ap, _∙_}
-use mathlib.Core.Bool.{false, not, _||_}
+use mathlib.Core.Bool.{true, not, _&&_}
 use mathlib.Core.List.{List}
 use Prim.Native.Nat.{ℕ, _-_}
 use lib.Dec.{eqb}
@@ -23,7 +23,7 @@ applied b d (Propose s) w = refl
 applied b d (Commit s) w = refl
 
 -- the label changed at its one index, and one store less left
-pub label-made : (b members d : ℕ) (change : Change) (run : Run) (area : List ℕ) → (eqb (run .left) 0 || not (has members d)) ≡ false
+pub label-made : (b members d : ℕ) (change : Change) (run : Run) (area : List ℕ) → (not (eqb (run .left) 0) && has members d) ≡ true
     → progress (record { labels = set (run .labels) d (changed change (labelAt (run .labels) d)); left = run .left - 1 }) area
     ≡ steps b (oneIf members d (changeOn change d)) (progress run area)
 label-made b members d change run area e =

@@ -1,7 +1,7 @@
 -- Stores of blocks under a budget. Assumes nothing.
 use mathlib.Core.Path.{_≡_, refl, sym, _∙_}
 use mathlib.Core.Logic.{_≢_, inl}
-use mathlib.Core.Bool.{Bool, true, false, cond, not, _||_}
+use mathlib.Core.Bool.{Bool, true, false, cond, not, _&&_}
 use mathlib.Core.List.{List, [], _∷_}
 use Prim.Native.Nat.{ℕ, zero, suc, _-_, _≤_, _<_}
 use native.Mathlib.Nat.{mul-le-mul-right}
@@ -18,7 +18,7 @@ use Rattle.area.specs.Parts.{InArea}
 use Rattle.stores.specs.declared.Run.{Run}
 use Rattle.stores.specs.Runs.{Progress, progress, step, steps, oneIf}
 use Rattle.stores.specs.Sizes.{Fits}
-use Rattle.stores.proofs.Runs.{steps-append, one-made}
+use Rattle.stores.proofs.Runs.{steps-append, power-there, one-made}
 
 -- disk d below n has its part in the area
 pub in-area : (n b d k : ℕ) (area : List ℕ) → Fits n b area → d < n → k < b → InArea b d k area
@@ -27,10 +27,16 @@ in-area n b d k area fits below known =
     record { disk = omega arith; few = fits .blocks; known = known; whole = rw (fits .size) (mul-le-mul-right 64 (mul-le-mul-right b (omega arith))) }
 
 -- the block stored in the area, and one store less left
-pub block-made : (b members d k : ℕ) (bytes : List ℕ) (run : Run) (area : List ℕ) → (eqb (run .left) 0 || not (has members d)) ≡ false
+pub block-made : (b members d k : ℕ) (bytes : List ℕ) (run : Run) (area : List ℕ) → (not (eqb (run .left) 0) && has members d) ≡ true
     → progress (record { labels = run .labels; left = run .left - 1 }) (withBlock b area d k bytes) ≡ steps b (oneIf members d (write d k bytes)) (progress run area)
 unfolding apply
 block-made b members d k bytes run area e = one-made b members d (write d k bytes) (progress run area) e
+
+-- the same of a block copied from another disk
+pub copy-made : (b from to k : ℕ) (run : Run) (area : List ℕ) → run .left ≢ 0
+    → progress (record { labels = run .labels; left = run .left - 1 }) (withBlock b area to k (block b area from k)) ≡ steps b (copy from to k ∷ []) (progress run area)
+unfolding apply
+copy-made b from to k run area e = power-there b (copy from to k) (progress run area) e
 
 -- ---- a block that is copied to other disks can be loaded once
 

@@ -1,6 +1,7 @@
 -- Laws of lists of stores under a budget. Assumes nothing.
-use mathlib.Core.Path.{_≡_, refl, ap, _∙_}
-use mathlib.Core.Bool.{Bool, true, false, cond, not, _||_, false≢true}
+use mathlib.Core.Path.{_≡_, refl, sym, ap, _∙_}
+use mathlib.Core.Logic.{_≢_}
+use mathlib.Core.Bool.{Bool, true, false, cond, not, _&&_, false≢true}
 use mathlib.Core.List.{List, [], _∷_, _++_}
 use Prim.Native.Nat.{ℕ, zero, suc, _+_, _-_}
 use native.Mathlib.Nat.{sub-zero, zero-sub, suc-sub-suc}
@@ -8,9 +9,9 @@ use native.Mathlib.Numerals.{add-one, sub-one}
 use lib.Dec.{eqb, eqb·suc-zero}
 use lib.ListN.{length}
 use lib.Seq.{take-nil}
-use borrow.Author.Tests.{not-false}
+use borrow.Author.Tests.{eq-eqb, ne-eqb, not-true}
 use Rattle.sets.specs.Sets.{has}
-use Rattle.sets.proofs.Tests.{or-parts}
+use Rattle.sets.proofs.Tests.{and-parts}
 use Rattle.protocol.specs.Loops.{ascending}
 use Rattle.protocol.specs.Stores.{Disks, Store, apply, applyAll, made}
 use Rattle.stores.specs.Runs.{Progress, step, steps, oneIf}
@@ -30,23 +31,33 @@ module _ (b : ℕ) where
   unfolding ascending
   one-turn f i p first second = rw (add-one, ascending) (in-sequence (ascending i f) (f i) p first second)
 
+  -- ---- one store
+
+  pub power-gone : (store : Store) (p : Progress) → p .left ≡ 0 → p ≡ steps b (store ∷ []) p
+  unfolding steps step
+  power-gone store p e = rw (eq-eqb _ _ e)
+
+  pub power-there : (store : Store) (p : Progress) → p .left ≢ 0 → record { disks = apply b store (p .disks); left = p .left - 1 } ≡ steps b (store ∷ []) p
+  unfolding steps step
+  power-there store p e = rw (ne-eqb _ _ e)
+
   -- ---- one store of "for each disk of S"
 
   -- none is made where the power allows none or the set lacks the disk
-  pub none-made : (set d : ℕ) (store : Store) (p : Progress) → (eqb (p .left) 0 || not (has set d)) ≡ true → p ≡ steps b (oneIf set d store) p
+  pub none-made : (set d : ℕ) (store : Store) (p : Progress) → (not (eqb (p .left) 0) && has set d) ≡ false → p ≡ steps b (oneIf set d store) p
   unfolding steps step
   none-made set d store p e = go (has set d) (eqb (p .left) 0) refl e
     where
-      go : (member spent : Bool) → eqb (p .left) 0 ≡ spent → (spent || not member) ≡ true → p ≡ steps b (cond member (store ∷ []) []) p
+      go : (member spent : Bool) → eqb (p .left) 0 ≡ spent → (not spent && member) ≡ false → p ≡ steps b (cond member (store ∷ []) []) p
       go false spent h e = refl
       go true true h e = rw h
-      go true false h e = absurd (false≢true e)
+      go true false h e = absurd (false≢true (sym e))
 
   -- otherwise it is
-  pub one-made : (set d : ℕ) (store : Store) (p : Progress) → (eqb (p .left) 0 || not (has set d)) ≡ false
+  pub one-made : (set d : ℕ) (store : Store) (p : Progress) → (not (eqb (p .left) 0) && has set d) ≡ true
       → record { disks = apply b store (p .disks); left = p .left - 1 } ≡ steps b (oneIf set d store) p
   unfolding steps step
-  one-made set d store p e = let (some, lacks) = or-parts (eqb (p .left) 0) (not (has set d)) e in rw (not-false (has set d) lacks, some)
+  one-made set d store p e = let (some, member) = and-parts (not (eqb (p .left) 0)) (has set d) e in rw (member, not-true (eqb (p .left) 0) some)
 
   -- ---- a run makes exactly the first stores of its list
 

@@ -3,50 +3,36 @@ ghost use mathlib.Core.Path.{_≡_};
 ghost use mathlib.Core.Bool.{false};
 ghost use mathlib.Core.List.{[], _∷_};
 ghost use Prim.Native.Nat.{_+_, _≤_, _<_};
-ghost use lib.ListN.{length};
 ghost use Rattle.sets.specs.Sets.{has};
-ghost use Rattle.protocol.specs.Geometry.{blockSize};
 ghost use Rattle.protocol.specs.Loops.{ascending, forEach};
 ghost use Rattle.protocol.specs.Stores.{write, copy};
-ghost use Rattle.stores.specs.Runs.{progress, steps, oneIf};
+ghost use Rattle.stores.specs.Runs.{progress, steps};
 ghost use Rattle.stores.specs.Sizes.{Fits};
 use crate::Run;
 use crate::Size;
 use protocol::geometry::BLOCK_SIZE;
 use sets::Mask;
 
-// The block on disk d, if the set has it and the power allows one more store.
-fn store_block(
+// The block on each disk of the set, ascending, while the power allows.
+pub fn store_blocks(
     run: Run,
     area: &mut [u8],
     size: Size,
     set: Mask,
-    d: usize,
     k: usize,
-    bytes: &[u8],
+    bytes: [u8; BLOCK_SIZE],
 ) -> Run
-    requires { ⌜ Fits (size .disks) (size .blocks) (now area) × (d < size .disks) × (k < size .blocks) × (length (now bytes) ≡ blockSize) ⌝ }
-    ensures { λ r. ⌜ progress r (now (area .exit)) ≡ steps (size .blocks) (oneIf set d (write d k (now (bytes .entry)))) (progress run (now (area .entry))) ⌝ }
-{
-    if (run.left == 0) | !sets::has(set, d) {
-        return run;
-    }
-    let mut run = run;
-    area::store(area, size.blocks, d, k, bytes);
-    run.left -= 1;
-    run
-}
-
-// The block on each disk of the set, ascending.
-pub fn store_blocks(run: Run, area: &mut [u8], size: Size, set: Mask, k: usize, bytes: &[u8]) -> Run
-    requires { ⌜ Fits (size .disks) (size .blocks) (now area) × (k < size .blocks) × (length (now bytes) ≡ blockSize) ⌝ }
-    ensures { λ r. ⌜ progress r (now (area .exit)) ≡ steps (size .blocks) (forEach (size .disks) set (λ d. write d k (now (bytes .entry)) ∷ [])) (progress run (now (area .entry))) ⌝ }
+    requires { ⌜ Fits (size .disks) (size .blocks) (now area) × (k < size .blocks) ⌝ }
+    ensures { λ r. ⌜ progress r (now (area .exit)) ≡ steps (size .blocks) (forEach (size .disks) set (λ d. write d k bytes ∷ [])) (progress run (now (area .entry))) ⌝ }
 {
     let n = size.disks;
     let mut run = run;
     let mut d = 0;
     while d < n {
-        run = store_block(run, area, size, set, d, k, bytes);
+        if (run.left != 0) & sets::has(set, d) {
+            area::store(area, size.blocks, d, k, bytes);
+            run.left -= 1;
+        }
         d += 1;
     }
     run
@@ -57,9 +43,8 @@ fn copy_block(run: Run, area: &mut [u8], size: Size, from: usize, set: Mask, k: 
     requires { ⌜ Fits (size .disks) (size .blocks) (now area) × (from < size .disks) × (has set from ≡ false) × (k < size .blocks) ⌝ }
     ensures { λ r. ⌜ progress r (now (area .exit)) ≡ steps (size .blocks) (forEach (size .disks) set (λ d. copy from d k ∷ [])) (progress run (now (area .entry))) ⌝ }
 {
-    let mut bytes = [0u8; BLOCK_SIZE];
-    area::load(area, size.blocks, from, k, &mut bytes);
-    store_blocks(run, area, size, set, k, &bytes)
+    let bytes = area::load(area, size.blocks, from, k);
+    store_blocks(run, area, size, set, k, bytes)
 }
 
 // The same of `count` blocks from `first` on, ascending.
@@ -80,6 +65,24 @@ pub fn copy_blocks(
     while i < count {
         run = copy_block(run, area, size, from, set, first + i);
         i += 1;
+    }
+    run
+}
+
+// All blocks of one disk on another, ascending, while the power allows.
+pub fn copy_disk(run: Run, area: &mut [u8], size: Size, from: usize, to: usize) -> Run
+    requires { ⌜ Fits (size .disks) (size .blocks) (now area) × (from < size .disks) × (to < size .disks) ⌝ }
+    ensures { λ r. ⌜ progress r (now (area .exit)) ≡ steps (size .blocks) (ascending (size .blocks) (λ k. copy from to k ∷ [])) (progress run (now (area .entry))) ⌝ }
+{
+    let blocks = size.blocks;
+    let mut run = run;
+    let mut k = 0;
+    while k < blocks {
+        if run.left != 0 {
+            area::store(area, blocks, to, k, area::load(area, blocks, from, k));
+            run.left -= 1;
+        }
+        k += 1;
     }
     run
 }

@@ -1,9 +1,9 @@
 // Stores on labels. They touch no block, so their promises hold for every disk area.
 ghost use mathlib.Core.Path.{_≡_};
 ghost use mathlib.Core.List.{List, [], _∷_};
-ghost use Prim.Native.Nat.{ℕ, _≤_, _<_};
+ghost use Prim.Native.Nat.{ℕ, _≤_};
 ghost use Rattle.protocol.specs.Loops.{forEach};
-ghost use Rattle.stores.specs.Runs.{progress, steps, oneIf};
+ghost use Rattle.stores.specs.Runs.{progress, steps};
 ghost use Rattle.stores.specs.Changes.{FitChange, changed, changeOn};
 use crate::Change;
 use crate::Run;
@@ -39,22 +39,7 @@ fn changed(l: Label, change: Change) -> Label
     }
 }
 
-// The store on disk d, if the set has it and the power allows one more.
-fn store_label(run: Run, set: Mask, d: usize, change: Change) -> Run
-    requires { do ⌜ (d < (← ⟦DISKS⟧)) × FitChange change ⌝ }
-    ensures { λ r. ⌜ ((b : ℕ) (area : List ℕ) → progress r area ≡ steps b (oneIf set d (changeOn change d)) (progress run area)) ⌝ }
-{
-    if (run.left == 0) | !sets::has(set, d) {
-        return run;
-    }
-    let mut run = run;
-    let l = changed(run.labels[d], change);
-    run.labels[d] = l;
-    run.left -= 1;
-    run
-}
-
-// The store on each disk of the set below n, ascending.
+// The store on each disk of the set below n, ascending, while the power allows.
 pub fn store_labels(run: Run, n: usize, set: Mask, change: Change) -> Run
     requires { do ⌜ (n ≤ (← ⟦DISKS⟧)) × FitChange change ⌝ }
     ensures { λ r. ⌜ ((b : ℕ) (area : List ℕ) → progress r area ≡ steps b (forEach n set (λ d. changeOn change d ∷ [])) (progress run area)) ⌝ }
@@ -62,7 +47,11 @@ pub fn store_labels(run: Run, n: usize, set: Mask, change: Change) -> Run
     let mut run = run;
     let mut d = 0;
     while d < n {
-        run = store_label(run, set, d, change);
+        if (run.left != 0) & sets::has(set, d) {
+            let l = changed(run.labels[d], change);
+            run.labels[d] = l;
+            run.left -= 1;
+        }
         d += 1;
     }
     run

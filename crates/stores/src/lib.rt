@@ -1,5 +1,6 @@
-// Stores under a budget: the leaf stores, which alone count it down, and the loops over the disks of a set. A loop goes on
-// when the budget is spent and stores nothing, so no loop ends early.
+// Stores under a budget: loops over the disks of a set or the blocks of a disk, which count it down at each store. A loop goes
+// on when the budget is spent and stores nothing, so no loop ends early. The stores stand in the loops themselves: a
+// function of its own for each would be handed the run, and give it back, by value.
 use label::Label;
 use sets::DISKS;
 use sets::Mask;
@@ -8,6 +9,7 @@ mod blocks;
 mod labels;
 
 pub use blocks::copy_blocks;
+pub use blocks::copy_disk;
 pub use blocks::store_blocks;
 pub use labels::store_labels;
 

@@ -25,15 +25,11 @@ part-load-block-end c = search needs
 load-block-requires : tie.Need-load-block-requires
 load-block-requires c κs = search needs
 
-same-length : tie.Need-same-length
-same-length c = search needs
-
 returns : tie.Need-returns
 returns c =
-    let start = c .before .before .before .before .before .before in
-    let end = c .before .before .before .before .before in
-    let (pre, full) = start .before .before .before .pre in
-    disk-loads _ _ _ _ (start .start .result) (end .start2 .result) pre (start .start .ensures) (end .start2 .ensures) _ (c .before .before .load-block .ensures)
+    let start = c .before .before .before in
+    let end = c .before .before in
+    disk-loads _ _ _ _ (start .start .result) (end .start2 .result) (start .before .before .pre) (start .start .ensures) (end .start2 .ensures) _ (c .load-block .ensures)
 
 pub load-spec : {M : Type 1} → statement M
 load-spec =
@@ -46,5 +42,4 @@ load-spec =
     part-load-block-start
     part-load-block-end
     load-block-requires
-    same-length
     returns)

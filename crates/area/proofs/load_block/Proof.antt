@@ -1,4 +1,4 @@
--- `area::load_block` meets its contract: after i turns the first i bytes of the block are in the output. Assumes nothing.
+-- `area::load_block` meets its contract. Assumes nothing.
 use mathlib.Core.Path.{_≡_, refl}
 use mathlib.Core.List.{_++_}
 use Prim.Native.Nat.{_≤_, _-_, _*_}
@@ -11,11 +11,11 @@ use Rattle.area.proofs.load_block.Statement.{statement}
 use Rattle.area.proofs.load_block.Tie as tie
 
 abbrev Inv-loop : tie.InvT-loop
-Inv-loop part k output₀ at i₀ output i =
-    (i ≤ blockSize) × (length output ≡ length output₀) × (output ≡ take i (drop (k * blockSize) part) ++ drop i output₀)
+Inv-loop part k at bytes₀ i₀ bytes i =
+    (i ≤ blockSize) × (length bytes ≡ blockSize) × (bytes ≡ take i (drop (k * blockSize) part) ++ drop i bytes₀)
 
 abbrev μ-loop : tie.MeasureT-loop
-μ-loop part k output₀ at i₀ output i = blockSize - i
+μ-loop part k at bytes₀ i₀ bytes i = blockSize - i
 
 mul-at : tie.Need-mul-at Inv-loop μ-loop
 mul-at c = omega arith
@@ -23,14 +23,14 @@ mul-at c = omega arith
 loop-holds : tie.Need-loop-holds Inv-loop μ-loop
 loop-holds c = (omega arith, refl, refl)
 
-add-output : tie.Need-add-output Inv-loop μ-loop
-add-output c = omega arith
+add-bytes : tie.Need-add-bytes Inv-loop μ-loop
+add-bytes c = omega arith
 
-shared-slice-read-output : tie.Need-shared-slice-read-output Inv-loop μ-loop
-shared-slice-read-output c = omega arith
+shared-slice-read-bytes : tie.Need-shared-slice-read-bytes Inv-loop μ-loop
+shared-slice-read-bytes c = omega arith
 
-slice-write-output : tie.Need-slice-write-output Inv-loop μ-loop
-slice-write-output c = omega arith
+array-write-bytes : tie.Need-array-write-bytes Inv-loop μ-loop
+array-write-bytes c = omega arith
 
 add-i : tie.Need-add-i Inv-loop μ-loop
 add-i c = omega arith
@@ -45,14 +45,11 @@ loop-again c =
       omega arith,
       simp length-set (omega arith),
       rw getD-drop at
-          (fill-turn _ (l .output) (drop (a .k * blockSize) (a .part .now)) (l .i) (omega arith) (simp length-drop (omega arith)) (l .inv .2)),
+          (fill-turn _ (l .bytes) (drop (a .k * blockSize) (a .part .now)) (l .i) (omega arith) (simp length-drop (omega arith)) (l .inv .2)),
     )
 
-same-length : tie.Need-same-length Inv-loop μ-loop
-same-length c = omega arith
-
 returns : tie.Need-returns Inv-loop μ-loop
-returns c = fill-end _ _ _ (c .before .loop .i) blockSize (c .before .before .pre .1) (omega arith) (c .before .loop .inv .2)
+returns c = fill-end _ _ _ (c .before .loop .i) blockSize refl (omega arith) (c .before .loop .inv .2)
 
 pub load-block-spec : {M : Type 1} → statement M
 load-block-spec =
@@ -62,11 +59,10 @@ load-block-spec =
     μ-loop
     mul-at
     loop-holds
-    add-output
-    shared-slice-read-output
-    slice-write-output
+    add-bytes
+    shared-slice-read-bytes
+    array-write-bytes
     add-i
     loop-less
     loop-again
-    same-length
     returns)

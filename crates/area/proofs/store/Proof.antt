@@ -1,4 +1,5 @@
 -- `area::store` meets its contract. Assumes nothing.
+use native.Mathlib.Omega.{arith}
 use borrow.Author.Needs.{needs}
 use Rattle.area.proofs.Parts.{disk-stores}
 use Rattle.area.proofs.store.Statement.{statement}
@@ -32,8 +33,7 @@ returns : tie.Need-returns
 returns c =
     let start = c .before .before .before .before .before in
     let end = c .before .before .before .before in
-    let (pre, full) = start .before .before .before .pre in
-    disk-stores _ _ _ _ _ _ pre (start .start .ensures) (end .start2 .ensures) _ _ full (c .before .before .store-block .ensures)
+    disk-stores _ _ _ _ _ _ (start .before .before .pre) (start .start .ensures) (end .start2 .ensures) _ _ (omega arith) (c .before .before .store-block .ensures)
 
 pub store-spec : {M : Type 1} → statement M
 store-spec =

@@ -1,4 +1,4 @@
--- `area::store_block` meets its contract: after i turns the first i bytes are stored. Assumes nothing.
+-- `area::store_block` meets its contract. Assumes nothing.
 use mathlib.Core.Path.{_≡_, refl}
 use Prim.Native.Nat.{_≤_, _-_, _*_}
 use native.Mathlib.Omega.{arith}
@@ -19,10 +19,10 @@ mul-at : tie.Need-mul-at Inv-loop μ-loop
 mul-at c = omega arith
 
 loop-holds : tie.Need-loop-holds Inv-loop μ-loop
-loop-holds c = (omega arith, refl, paste-zero _ (c .args .k * blockSize) (c .args .bytes .now))
+loop-holds c = (omega arith, refl, paste-zero _ (c .args .k * blockSize) (c .blocks))
 
-shared-slice-read-part : tie.Need-shared-slice-read-part Inv-loop μ-loop
-shared-slice-read-part c = omega arith
+array-read-part : tie.Need-array-read-part Inv-loop μ-loop
+array-read-part c = omega arith
 
 add-part : tie.Need-add-part Inv-loop μ-loop
 add-part c = omega arith
@@ -37,7 +37,7 @@ loop-less : tie.Need-loop-less Inv-loop μ-loop
 loop-less c = omega arith
 
 loop-again : tie.Need-loop-again Inv-loop μ-loop
-loop-again c = (omega arith, simp length-set (omega arith), store-turn _ _ _ _ _ (omega arith) (omega arith) (c .before .before .loop .inv .2))
+loop-again c = (omega arith, simp length-set (omega arith), store-turn _ _ _ _ _ (omega arith) (omega arith) (c .before .loop .inv .2))
 
 same-length : tie.Need-same-length Inv-loop μ-loop
 same-length c = omega arith
@@ -46,7 +46,7 @@ returns : tie.Need-returns Inv-loop μ-loop
 returns c =
     let l = c .before .loop in
     let a = c .before .before .args in
-    store-end (a .part .now) (l .part) (a .bytes .now) (a .k * blockSize) (l .i) (omega arith) (l .inv .2)
+    store-end (a .part .now) (l .part) _ (a .k * blockSize) (l .i) (omega arith) (l .inv .2)
 
 pub store-block-spec : {M : Type 1} → statement M
 store-block-spec =
@@ -56,7 +56,7 @@ store-block-spec =
     μ-loop
     mul-at
     loop-holds
-    shared-slice-read-part
+    array-read-part
     add-part
     slice-write-part
     add-i

@@ -1,6 +1,6 @@
 -- `exports::cabinet_power_off` meets its contract. Assumes nothing.
-use Rattle.exports.proofs.Boundary.{seen-of}
 use borrow.Author.Needs.{needs}
+use Rattle.exports.proofs.Boundary.{seen-of}
 use Rattle.exports.proofs.cabinet_power_off.Statement.{statement}
 use Rattle.exports.proofs.cabinet_power_off.Tie as tie
 

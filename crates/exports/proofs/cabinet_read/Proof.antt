@@ -1,6 +1,6 @@
 -- `exports::cabinet_read` meets its contract. Assumes nothing.
-use Rattle.exports.proofs.Boundary.{seen-of}
 use borrow.Author.Needs.{needs}
+use Rattle.exports.proofs.Boundary.{seen-of}
 use Rattle.exports.proofs.cabinet_read.Statement.{statement}
 use Rattle.exports.proofs.cabinet_read.Tie as tie
 

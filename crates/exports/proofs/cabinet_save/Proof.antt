@@ -1,6 +1,6 @@
 -- `exports::cabinet_save` meets its contract. Assumes nothing.
-use Rattle.exports.proofs.Boundary.{seen-of}
 use borrow.Author.Needs.{needs}
+use Rattle.exports.proofs.Boundary.{seen-of}
 use Rattle.exports.proofs.cabinet_save.Statement.{statement}
 use Rattle.exports.proofs.cabinet_save.Tie as tie
 

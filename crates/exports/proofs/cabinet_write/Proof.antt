@@ -1,6 +1,6 @@
 -- `exports::cabinet_write` meets its contract. Assumes nothing.
-use Rattle.exports.proofs.Boundary.{seen-of}
 use borrow.Author.Needs.{needs}
+use Rattle.exports.proofs.Boundary.{seen-of}
 use Rattle.exports.proofs.cabinet_write.Statement.{statement}
 use Rattle.exports.proofs.cabinet_write.Tie as tie
 

@@ -1,6 +1,6 @@
 -- `exports::flat::flat` meets its contract. Assumes nothing.
-use Rattle.exports.specs.Flat.{flat}
 use borrow.Author.Needs.{needs}
+use Rattle.exports.specs.Flat.{flat}
 use Rattle.exports.proofs.flat.flat.Statement.{statement}
 use Rattle.exports.proofs.flat.flat.Tie as tie
 

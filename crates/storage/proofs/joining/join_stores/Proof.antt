@@ -6,7 +6,7 @@ use Rattle.protocol.proofs.Backing.{source-known}
 use Rattle.protocol.proofs.Soundness.{live-known}
 use Rattle.tally.proofs.Fitting.{ready-fits}
 use Rattle.tally.proofs.Carrying.{carried}
-use Rattle.storage.proofs.JoinList.{join-ran, join-length, source-other}
+use Rattle.storage.proofs.JoinList.{join-ran, join-length}
 use Rattle.storage.proofs.joining.join_stores.Statement.{statement}
 use Rattle.storage.proofs.joining.join_stores.Tie as tie
 
@@ -55,20 +55,15 @@ move-to-live-requires c κs =
 source-requires : tie.Need-source-requires
 source-requires c κs = search needs
 
-copy-blocks-requires : tie.Need-copy-blocks-requires
-copy-blocks-requires c κs =
-    let at-new = c .before .before .before .before .before .before .before .before in
-    let at-live = at-new .before in
+copy-disk-requires : tie.Need-copy-disk-requires
+copy-disk-requires c κs =
+    let at-live = c .before .before .before .before .before .before .before .before .before in
     let sized = at-live .before .before in
     let start = sized .before .before in
     let s = start .args .s in
     let fit = start .pre .0 .fit in
-    rw (sized .size-of .ensures, c .source .ensures, at-live .live .ensures, at-new .singleton .ensures) (
-      ready-fits (start .pre .0),
-      source-known (s .disks) _ (start .pre .1) (live-known s fit),
-      source-other s _ (start .pre .1) (start .pre .3),
-      omega arith,
-    )
+    rw (sized .size-of .ensures, c .source .ensures, at-live .live .ensures)
+    (ready-fits (start .pre .0), source-known (s .disks) _ (start .pre .1) (live-known s fit), start .pre .2)
 
 move-to-requires : tie.Need-move-to-requires
 move-to-requires c κs =
@@ -107,14 +102,14 @@ returns c output =
     let new = at-new .singleton .ensures in
     let joined = at-joined .union .ensures in
     let moved = rw (size, live, current, begun .started .ensures) at (at-move .move-to-live .ensures (s .blocks) area) in
-    let filled = rw (size, at-source .source .ensures, live, new) at (at-copies .copy-blocks .ensures) in
-    let last = rw (size, joined, live, new) at (at-last .move-to .ensures (s .blocks) (at-copies .copy-blocks .last .1 .0)) in
+    let filled = rw (size, at-source .source .ensures, live) at (at-copies .copy-disk .ensures) in
+    let last = rw (size, joined, live, new) at (at-last .move-to .ensures (s .blocks) (at-copies .copy-disk .last .1 .0)) in
     let moves = rw (live, current) at (at-length .live-length .ensures .0 (s .disks) (rw live (live-known s fit))) in
     let known = below-with _ d (s .disks) (live-known s fit) (start .pre .2) in
     let ends = rw (joined, live, new) at (at-end .move-length .ensures .0 (s .disks) (rw (joined, live, new) known)) in
     rw (c .ended .ensures, joined, live, new)
-    (carried s _ _ (start .args .budget) _ area _ output (join-ran s d (start .pre .2) _ moved filled last) _
-    (rw size (omega (arith, moves, ends, join-length s d (start .pre .2)))))
+    (carried s _ _ (start .args .budget) _ area _ output (join-ran s d _ moved filled last) _
+    (rw size (omega (arith, moves, ends, join-length s d))))
 
 pub join-stores-spec : {M : Type 1} → statement M
 join-stores-spec =
@@ -132,7 +127,7 @@ join-stores-spec =
     started-requires
     move-to-live-requires
     source-requires
-    copy-blocks-requires
+    copy-disk-requires
     move-to-requires
     ended-requires
     same-length

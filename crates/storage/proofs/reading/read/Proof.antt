@@ -23,7 +23,13 @@ load-requires : tie.Need-load-requires
 load-requires c κs =
     let start = c .before .before .before .before in
     rw (c .before .before .source .ensures, c .before .before .before .live .ensures)
-    (read-ready _ _ _ (start .before .before .before .before .args .output .now) (sym (start .before .block-refusal .ensures _ _ refl refl) ∙ start .if1 .taken))
+    (read-ready _ _ _ (start .before .before .before .before .args .output .now) (sym (start .before .block-refusal .ensures _ _ refl refl) ∙ start .if1 .taken) .0)
+
+to-slice-requires : tie.Need-to-slice-requires
+to-slice-requires c κs =
+    let start = c .before .before .before .before .before in
+    let a = start .before .before .before .before .args in
+    read-ready (a .s) (a .area .now) (a .k) (a .output .now) (sym (start .before .block-refusal .ensures _ _ refl refl) ∙ start .if1 .taken) .1
 
 without-stores-requires : tie.Need-without-stores-requires
 without-stores-requires c κs = search needs
@@ -37,10 +43,11 @@ same-length c = search needs
 returns : tie.Need-returns
 unfolding readOutcome
 returns c =
-    let from = c .before .before .before .before .before .before in
+    let loaded = c .before .before .before .before in
+    let from = loaded .before .before .before in
     let start = from .before .before in
     passed _ _ _ _ _ (start .before .block-refusal .ensures _ _ refl refl) (start .if1 .taken)
-    (rw (c .without-stores .ensures, c .before .before .before .load .ensures, from .source .ensures, from .before .live .ensures))
+    (rw (c .without-stores .ensures, c .before .before .before .to-slice .ensures, loaded .load .ensures, from .source .ensures, from .before .live .ensures))
 
 returns-2 : tie.Need-returns-2
 unfolding readOutcome
@@ -55,6 +62,7 @@ read-spec =
     source-requires
     cast-load
     load-requires
+    to-slice-requires
     without-stores-requires
     without-stores-requires-2
     same-length

@@ -54,12 +54,14 @@ store-labels-requires c κs =
     let start = sized .before .before .before .before in
     (rw (sized .size-of .ensures) (start .pre .0 .fit .range .disks), omega (arith, start .pre .0 .fit .range .blocks, start .pre .1))
 
+from-slice-requires : tie.Need-from-slice-requires
+from-slice-requires c κs = search needs
+
 store-blocks-requires : tie.Need-store-blocks-requires
 store-blocks-requires c κs =
-    let sized = c .before .before .before .before .before .before .before .before .before .before .before in
+    let sized = c .before .before .before .before .before .before .before .before .before .before .before .before in
     let start = sized .before .before .before .before in
-    rw (sized .size-of .ensures)
-    (ready-fits (start .pre .0), start .pre .1, start .pre .2)
+    rw (sized .size-of .ensures) (ready-fits (start .pre .0), start .pre .1)
 
 ended-requires : tie.Need-ended-requires
 ended-requires c κs = search needs
@@ -71,7 +73,8 @@ returns : tie.Need-returns
 unfolding regionOf
 returns c output =
     let at-blocks = c .before .before .before in
-    let at-labels = at-blocks .before .before in
+    let at-block = at-blocks .before in
+    let at-labels = at-block .before .before in
     let at-move = at-labels .before in
     let begun = at-move .before in
     let at-count2 = begun .before in
@@ -95,7 +98,7 @@ returns c output =
     let dirty = at-dirty .dirty-disks .ensures in
     let moved = rw (size, live, current, begun .started .ensures) at (at-move .move-to-live .ensures (s .blocks) area) in
     let marked = rw (size, unmarked, live, dirty, size) at (at-labels .store-labels .ensures (s .blocks) area) in
-    let stored = rw (size, live) at (at-blocks .store-blocks .ensures) in
+    let stored = rw (size, live, at-block .from-slice .ensures) at (at-blocks .store-blocks .ensures) in
     let moves = rw (live, current) at (at-length .live-length .ensures .0 (s .disks) (rw live (live-known s fit))) in
     let marks = rw (unmarked, live, dirty, size) at (at-count .count .ensures .0) in
     let blocks = rw live at (at-count2 .count2 .ensures .0) in
@@ -120,6 +123,7 @@ write-stores-spec =
     started-requires
     move-to-live-requires
     store-labels-requires
+    from-slice-requires
     store-blocks-requires
     ended-requires
     same-length
