@@ -1,0 +1,20 @@
+//! The calls once more, for speed: what an engineer writes who has the paper and no proofs. The benchmark compares the
+//! proved product with it.
+//!
+//! It keeps the paper's method: the same stores in the same order, counted one by one. Stores of blocks that are
+//! neighbours both in the list and in the area go to one copy. Numbers, states and buffers may be anything: what does
+//! not fit is refused. Nothing is allocated, and every index is checked.
+
+mod calls;
+mod convert;
+mod naming;
+mod restart;
+mod sets;
+mod slots;
+mod state;
+mod stores;
+
+pub use calls::{cut, fresh, give_back, join, lose, quiet, read, write};
+pub use restart::restart;
+pub use slots::{assemble, save};
+pub use state::{Answer, Label, State};
