@@ -3,10 +3,10 @@
 use std::env;
 use std::path::PathBuf;
 
-/// Names another folder that holds the archive.
+/// The environment variable that names another folder with the archive.
 const FOLDER_VARIABLE: &str = "CABINET_LIB_DIR";
 
-/// Where `rt staticlib exports` leaves the archive, seen from this package.
+/// Where `rt staticlib exports` leaves the archive.
 const BUILT_FOLDER: &str = "../../target/staticlib";
 
 fn main() {
@@ -23,9 +23,8 @@ fn main() {
     }
 }
 
-/// The folder of the archive. Cargo runs a build script in its package's folder and rustc elsewhere, so the default is
-/// made absolute.
+/// The folder of the archive. A relative one is seen from this package, and made absolute: rustc may run elsewhere.
 fn library_folder() -> PathBuf {
-    let built = || PathBuf::from(env!("CARGO_MANIFEST_DIR")).join(BUILT_FOLDER);
-    env::var_os(FOLDER_VARIABLE).map_or_else(built, PathBuf::from)
+    let folder = env::var_os(FOLDER_VARIABLE).unwrap_or(BUILT_FOLDER.into());
+    PathBuf::from(env!("CARGO_MANIFEST_DIR")).join(folder)
 }

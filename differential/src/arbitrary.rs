@@ -1,6 +1,6 @@
 //! Cases on arbitrary states, each for itself: all calls, with whatever numbers and buffers.
 
-use crate::arguments::{self, blocks, byte, bytes, disks, length, number};
+use crate::arguments::{blocks, byte, bytes, call_on, disks, length, number};
 use crate::case::{Call, Case};
 use crate::comparison::Source;
 use crate::implementations::{Implementation, Plain};
@@ -34,46 +34,30 @@ impl Source for Arbitrary {
 /// A fresh: its area is that of the numbers before these were made bad.
 fn fresh(random: &mut Random) -> Case {
     let (disks, blocks) = (disks(random), blocks(random));
-    let area = length(random, disks * blocks * BLOCK, BAD);
     Case {
         disks: number(random, disks..=disks, BAD),
         blocks: number(random, blocks..=blocks, BAD),
-        area: bytes(random, area),
+        area: bytes(random, disks * blocks * BLOCK, BAD),
         ..Case::new(Call::Fresh)
     }
 }
 
 /// A call that takes a state.
 fn on_state(random: &mut Random, call: Call) -> Case {
-    let mut case = Case::new(call);
-    let state = states::any(random);
-    case.state = state;
-    if call.takes_area() {
+    let stopped = if call == Call::Restart { 90 } else { 20 };
+    let state = states::any(random, stopped);
+    let area = if call.takes_area() {
         let right = usize::from(state.disks) * usize::from(state.blocks) * BLOCK;
-        let length = length(random, right.min(LONGEST), BAD);
-        case.area = bytes(random, length);
-    }
-    let right = match call {
-        Call::Read | Call::Write => BLOCK,
-        Call::Save => SLOT * usize::from(state.disks),
-        _ => 0,
+        bytes(random, right.min(LONGEST), BAD)
+    } else {
+        Vec::new()
     };
-    if right > 0 {
-        let length = length(random, right, BAD);
-        case.buffer = bytes(random, length);
-    }
-    if matches!(call, Call::Read | Call::Write | Call::Join | Call::Lose | Call::Return) {
-        case.number = arguments::number_for(random, call, &state, BAD);
-    }
-    if call.takes_supply() {
-        case.supply = arguments::supply(random, &case);
-    }
-    case
+    call_on(random, call, state, area, BAD)
 }
 
 /// An assemble.
 fn assemble(random: &mut Random) -> Case {
-    let state = states::sound(random);
+    let state = states::sound(random, 50);
     let mut slots = saved(&state);
     match random.below(10) {
         0 => slots.fill_with(|| random.byte()),

@@ -5,6 +5,7 @@ use crate::counts::Counts;
 use crate::implementations::{Implementation, Outcome};
 use crate::{state_bytes, word};
 use std::fmt;
+use std::panic::{catch_unwind, AssertUnwindSafe};
 
 /// Where cases come from.
 pub trait Source {
@@ -20,22 +21,26 @@ pub trait Source {
 pub struct Comparison {
     /// The case.
     pub case: Case,
-    /// What each implementation gave, by its name.
-    pub outcomes: Vec<(&'static str, Outcome)>,
+    /// What each implementation gave, by its name; `None` if it panicked.
+    pub outcomes: Vec<(&'static str, Option<Outcome>)>,
 }
 
 impl Comparison {
     /// Runs the case.
     pub fn of(implementations: &[&dyn Implementation], case: Case) -> Comparison {
-        let named = |each: &&dyn Implementation| (each.name(), each.make(case.clone()));
-        let outcomes = implementations.iter().map(named).collect();
+        let made = |each: &&dyn Implementation| {
+            let outcome = catch_unwind(AssertUnwindSafe(|| each.make(case.clone())));
+            (each.name(), outcome.ok())
+        };
+        let outcomes = implementations.iter().map(made).collect();
         Comparison { case, outcomes }
     }
 
-    /// What all of them gave; `None` if two differ.
+    /// What all of them gave; `None` if two differ or one panicked.
     pub fn agreed(&self) -> Option<&Outcome> {
         let ((_, first), others) = self.outcomes.split_first()?;
-        others.iter().all(|(_, other)| other == first).then_some(first)
+        let first = first.as_ref();
+        first.filter(|_| others.iter().all(|(_, other)| other.as_ref() == first))
     }
 }
 
@@ -75,7 +80,8 @@ impl fmt::Display for Comparison {
     fn fmt(&self, f: &mut fmt::Formatter<'_>) -> fmt::Result {
         writeln!(f, "case '{}'", self.case.line())?;
         for (name, outcome) in &self.outcomes {
-            writeln!(f, "{name:9} {outcome}")?;
+            let text = outcome.as_ref().map_or("panicked".to_string(), Outcome::to_string);
+            writeln!(f, "{name:9} {text}")?;
         }
         Ok(())
     }

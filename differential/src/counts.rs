@@ -29,14 +29,6 @@ impl Counts {
     pub fn total(&self) -> usize {
         self.0.values().sum()
     }
-
-    /// Both together.
-    pub fn and(mut self, other: &Counts) -> Counts {
-        for (key, count) in &other.0 {
-            *self.0.entry(*key).or_default() += count;
-        }
-        self
-    }
 }
 
 /// A line for each call: its name, then each result with its count.

@@ -1,12 +1,11 @@
 //! Random histories: from a fresh on, each call on the state and the area that the last one left.
 
-use crate::arguments::{self, blocks, byte, bytes, disks, length, number};
+use crate::arguments::{blocks, byte, bytes, call_on, disks, number};
 use crate::case::{Call, Case};
 use crate::comparison::Source;
 use crate::implementations::Outcome;
 use reference::plain::State;
 use reference::random::Random;
-use reference::slots::SLOT;
 use reference::state::BLOCK;
 
 /// Bad numbers and lengths, of a hundred.
@@ -89,7 +88,7 @@ impl Histories {
         Case {
             disks,
             blocks,
-            area: bytes(random, disks * blocks * BLOCK),
+            area: bytes(random, disks * blocks * BLOCK, 0),
             ..Case::new(Call::Fresh)
         }
     }
@@ -97,34 +96,24 @@ impl Histories {
     /// A call on the state and the area that the last one left.
     fn call_by_mix(&mut self) -> Case {
         let call = self.call_of_mix();
-        let mut case = match call {
-            Call::Fresh => self.fresh_again(),
-            _ => Case {
-                state: self.state,
-                number: arguments::number_for(&mut self.random, call, &self.state, BAD),
-                ..Case::new(call)
-            },
-        };
-        if call.takes_area() {
-            case.area.clone_from(&self.area);
-        }
-        let right = if call == Call::Save {
-            SLOT * usize::from(self.state.disks)
+        let area = if call.takes_area() {
+            self.area.clone()
         } else {
-            BLOCK
+            Vec::new()
         };
-        let length = length(&mut self.random, right, BAD);
-        case.buffer = bytes(&mut self.random, length);
-        case.supply = arguments::supply(&mut self.random, &case);
-        case
+        match call {
+            Call::Fresh => self.fresh(area),
+            _ => call_on(&mut self.random, call, self.state, area, BAD),
+        }
     }
 
     /// A fresh in the midst of a history.
-    fn fresh_again(&mut self) -> Case {
+    fn fresh(&mut self, area: Vec<u8>) -> Case {
         let (disks, blocks) = (self.state.disks.into(), self.state.blocks.into());
         Case {
             disks: number(&mut self.random, disks..=disks, 30),
             blocks: number(&mut self.random, blocks..=blocks, 30),
+            area,
             ..Case::new(Call::Fresh)
         }
     }

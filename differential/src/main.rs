@@ -3,13 +3,13 @@
 use differential::command::command;
 use differential::implementations::{Plain, Proved, Reference};
 use reference::mistakes::Rules;
-use std::env;
 use std::process::ExitCode;
+use std::{env, io};
 
-fn main() -> ExitCode {
+fn main() -> io::Result<ExitCode> {
     let words: Vec<String> = env::args().skip(1).collect();
     let words: Vec<&str> = words.iter().map(String::as_str).collect();
-    let printed = command(&[&Proved, &Reference(Rules::PAPER), &Plain], &words);
-    print!("{}", printed.text);
-    ExitCode::from(printed.status)
+    let all = [&Proved as _, &Reference(Rules::PAPER) as _, &Plain as _];
+    let status = command(&all, &words, &mut io::stdout())?;
+    Ok(ExitCode::from(status as u8))
 }

@@ -8,30 +8,28 @@ use reference::random::Random;
 /// The sets that the labels of one state name, besides those of one disk.
 const POOL: usize = 3;
 
-/// Any state; sound in about two of three.
-pub fn any(random: &mut Random) -> State {
+/// Any state, sound in about two of three. Of the sound ones so many of a hundred are stopped.
+pub fn any(random: &mut Random, stopped: usize) -> State {
+    let state = sound(random, stopped);
     match random.below(12) {
-        0..=7 => sound(random),
-        8..=10 => {
-            let state = sound(random);
-            damaged(random, &state)
-        }
-        _ => garbage(random),
+        0 => garbage(random),
+        1..=3 => damaged(random, &state),
+        _ => state,
     }
 }
 
-/// A sound state, also such as no history reaches.
-pub fn sound(random: &mut Random) -> State {
-    let stopped = stopped(random);
-    if random.percent(35) {
-        stopped
+/// A sound state, also such as no history reaches; so many of a hundred are stopped.
+pub fn sound(random: &mut Random, stopped: usize) -> State {
+    let state = stopped_state(random);
+    if random.percent(stopped) {
+        state
     } else {
-        running(random, stopped)
+        running(random, state)
     }
 }
 
 /// A sound state of a stopped cabinet. Its labels name few sets, so that a restart finds none, one or several of them.
-fn stopped(random: &mut Random) -> State {
+fn stopped_state(random: &mut Random) -> State {
     let (disks, blocks) = (disks(random) as u8, blocks(random) as u8);
     let all = below(disks);
     let mut state = State {
@@ -40,8 +38,8 @@ fn stopped(random: &mut Random) -> State {
         reach: all & byte(random, 0xff, 60),
         ..State::default()
     };
-    let pool: [u8; POOL] = std::array::from_fn(|_| random.byte() & byte(random, 0xff, 50) & all);
-    let (loyalty, proposing) = (random.pick(&[40, 80, 95]), random.pick(&[0, 40, 90]));
+    let pool: [u8; POOL] = std::array::from_fn(|_| byte(random, 0xff, 25) & byte(random, 0xff, 50) & all);
+    let (loyalty, proposing) = (random.pick(&[40, 80, 100]), random.pick(&[0, 40, 90]));
     let regions = below(blocks.div_ceil(8)) & random.pick(&[0, 0xff]);
     for disk in 0..disks {
         state.labels[usize::from(disk)] = Label {

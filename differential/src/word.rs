@@ -6,13 +6,18 @@ const SHORTEST_RUN: usize = 5;
 
 /// The word of these bytes.
 pub fn word_of(mut bytes: &[u8]) -> String {
-    let mut parts = Vec::new();
+    let mut word = String::new();
+    let mut after_run = false;
     while !bytes.is_empty() {
         let (run, rest) = bytes.split_at(run_length(bytes));
-        parts.push(part_of(run));
-        bytes = rest;
+        let is_run = run.len() >= SHORTEST_RUN;
+        if !word.is_empty() && (is_run || after_run) {
+            word.push(',');
+        }
+        word += &part_of(run);
+        (bytes, after_run) = (rest, is_run);
     }
-    parts.join(",")
+    word
 }
 
 /// The length of the longest run that the bytes begin with.

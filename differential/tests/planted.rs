@@ -2,7 +2,7 @@
 
 use differential::arbitrary::Arbitrary;
 use differential::case::{Call, Case};
-use differential::command::command;
+use differential::command::{command, Status};
 use differential::comparison::{run, Comparison, Source};
 use differential::histories::Histories;
 use differential::implementations::{Implementation, Outcome, Plain, Proved, Reference};
@@ -83,24 +83,73 @@ fn a_change_of_anything_that_a_call_gives_is_found() {
     }
 }
 
+/// Plain Rust, given other arguments.
+struct Mistaking(fn(&mut Case));
+
+impl Implementation for Mistaking {
+    fn name(&self) -> &'static str {
+        "mistaking"
+    }
+
+    fn make(&self, mut case: Case) -> Outcome {
+        self.0(&mut case);
+        Plain.make(case)
+    }
+}
+
+#[test]
+fn a_number_that_is_cut_to_fewer_bits_or_off_by_one_is_found() {
+    let mistakes: [fn(&mut Case); 10] = [
+        |case| case.number = usize::from(case.number as u8),
+        |case| case.number = usize::from(case.number as u16),
+        |case| case.number = case.number as u32 as usize,
+        |case| case.number &= usize::MAX >> 1,
+        |case| case.disks = case.disks as u32 as usize,
+        |case| case.blocks = case.blocks as u32 as usize,
+        |case| case.reach &= 0x7f,
+        |case| case.supply = case.supply.min(255),
+        |case| case.supply = case.supply.saturating_add(1),
+        |case| case.supply = case.supply.saturating_sub(1),
+    ];
+    for (place, mistake) in mistakes.into_iter().enumerate() {
+        let difference = found(&Mistaking(mistake), Arbitrary(Random::new(5)));
+        assert!(difference.is_some(), "mistake {place}");
+    }
+}
+
+/// What the command of these words prints and exits with.
+fn printed(implementations: &[&dyn Implementation], words: &[&str]) -> (String, Status) {
+    let mut output = Vec::new();
+    let status = command(implementations, words, &mut output).expect("a vector takes all");
+    (String::from_utf8(output).expect("the text is ASCII"), status)
+}
+
 #[test]
 fn a_difference_is_printed_as_a_case_to_run_again() {
     let wrong = Reference(Rules::with(Mistake::ClearsBeforeCopies));
-    let printed = command(&[&Proved, &wrong], &["7"]);
-    assert_eq!(printed.status, 1);
-    let quoted = printed.text.split('\'').nth(1).expect("the case is in quotes");
-    assert!(quoted.starts_with("restart "), "{quoted}");
-    let again = command(&[&Proved, &wrong], &["case", quoted]);
-    assert_eq!(again.status, 1);
-    assert!(printed.text.ends_with(&again.text));
-    assert_eq!(again.text.lines().count(), 3);
-    let agreed = command(&[&Proved, &Reference(Rules::PAPER), &Plain], &["case", quoted]);
-    assert_eq!(agreed.status, 0);
+    let (text, status) = printed(&[&Proved, &wrong], &["7"]);
+    assert_eq!(status, Status::Differed);
+    let line = text.split('\'').nth(1).expect("the case is in quotes");
+    assert!(line.starts_with("restart "), "{line}");
+    let (again, status) = printed(&[&Proved, &wrong], &["case", line]);
+    assert_eq!(status, Status::Differed);
+    assert!(text.ends_with(&again));
+    assert_eq!(again.lines().count(), 3);
+    let (_, status) = printed(&[&Proved, &Reference(Rules::PAPER), &Plain], &["case", line]);
+    assert_eq!(status, Status::Agreed);
+}
+
+#[test]
+fn a_panic_is_a_difference() {
+    let panicking = Meddling(Call::Cut, |outcome| outcome.area.copy_from_slice(&[0]));
+    let (text, status) = printed(&[&Proved, &panicking], &["case", "cut"]);
+    assert_eq!(status, Status::Differed);
+    assert!(text.ends_with("meddling  panicked\n"), "{text}");
 }
 
 #[test]
 fn other_words_are_no_command() {
     for words in [&["case"][..], &["case", "nothing"], &["-1"], &["1", "2"]] {
-        assert_eq!(command(&[&Proved], words).status, 2, "{words:?}");
+        assert_eq!(printed(&[&Proved], words).1, Status::Misused, "{words:?}");
     }
 }

@@ -59,9 +59,9 @@ unsafe extern "C" {
     fn cabinet_assemble(disks: usize, blocks: usize, online: u8, slots: *const u8, slots_length: usize) -> RawAnswer;
 }
 
-/// The calls. None asks anything of its caller: each takes whatever it is given, and refuses what does not fit, by the
-/// first of its refusals whose condition holds, in the order given here. `budget` is the number of stores that the power
-/// lasts for (the paper's supply).
+/// The calls. None asks anything of its caller: each takes whatever it is given, and refuses what does not fit by the
+/// first of its [refusals](crate::Refusal) whose condition holds, in the order given here. `budget` is the number of
+/// stores that the power lasts for (the paper's supply).
 impl State {
     /// A new cabinet (the paper's fresh): all disks in reach and current, no block dirty, the area all zero.
     ///
