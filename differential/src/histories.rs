@@ -68,7 +68,7 @@ impl Source for Histories {
 }
 
 impl Histories {
-    /// Histories from this seed.
+    /// Histories by these random numbers.
     pub fn new(random: Random) -> Histories {
         Histories {
             random,
@@ -120,16 +120,9 @@ impl Histories {
 
     /// The call by the mix.
     fn call_of_mix(&mut self) -> Call {
-        let stopped = self.state.current == 0;
-        let mut rest = self.random.below(100);
-        for (call, running_share, stopped_share) in MIX {
-            let share = if stopped { stopped_share } else { running_share };
-            match rest.checked_sub(share) {
-                Some(less) => rest = less,
-                None => return call,
-            }
-        }
-        Call::Cut
+        let is_stopped = self.state.current == 0;
+        let share = |(call, running, stopped)| (call, if is_stopped { stopped } else { running });
+        self.random.pick_by_share(&MIX.map(share))
     }
 
     /// An assemble of what was saved; mostly with the disks in reach that the cabinet has.
