@@ -1,6 +1,7 @@
 //! The rows of the table: a call, and the state that it is made on.
 
 use reference::plain::{self, State};
+use reference::refusal::{DONE, UNSOUND};
 
 /// n of every row.
 pub const DISKS: usize = 8;
@@ -31,11 +32,12 @@ pub enum Call {
     Assemble,
 }
 
-/// A row.
+/// A row. The result is what the call must give for the row to be what its name says.
 pub struct Row {
     pub name: &'static str,
     pub call: Call,
     pub state: State,
+    pub result: u8,
 }
 
 /// The buffers that calls are lent. Both sides work on the same ones, so that both find the same caches.
@@ -89,12 +91,20 @@ pub fn rows() -> Vec<Row> {
         row("power off (cut)", Call::PowerOff, fresh()),
         row("save", Call::Save, dirty(fresh())),
         row("assemble", Call::Assemble, dirty(stopped(fresh()))),
-        row("write, refused: unsound state", Call::Write, unsound()),
+        Row {
+            result: UNSOUND,
+            ..row("write, refused: unsound state", Call::Write, unsound())
+        },
     ]
 }
 
 fn row(name: &'static str, call: Call, state: State) -> Row {
-    Row { name, call, state }
+    Row {
+        name,
+        call,
+        state,
+        result: DONE,
+    }
 }
 
 fn fresh() -> State {

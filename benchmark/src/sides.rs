@@ -1,9 +1,10 @@
 //! The two sides: the proved calls by the bindings, and the same calls in plain Rust.
 
 use crate::rows::{Buffers, Call, Row, BLOCK, BLOCKS, DISK, DISKS, SUPPLY};
+use crate::timing::repeat;
 use reference::plain;
 use std::hint::black_box;
-use std::time::{Duration, Instant};
+use std::time::Duration;
 
 /// The calls of a side by the product's names. States and answers are its own, so that no conversion is timed.
 pub struct Side<S, A> {
@@ -121,14 +122,4 @@ impl<S: Copy, A> Side<S, A> {
         };
         (time, (side.answer)(answer))
     }
-}
-
-/// Does it so many times, at least once: the time of all, and the last result.
-pub fn repeat<A>(times: usize, mut act: impl FnMut() -> A) -> (Duration, A) {
-    let start = Instant::now();
-    for _ in 1..times {
-        black_box(act());
-    }
-    let last = black_box(act());
-    (start.elapsed(), last)
 }
