@@ -5,16 +5,22 @@
 //! neighbours both in the list and in the area go to one copy. Numbers, states and buffers may be anything: what does
 //! not fit is refused. Nothing is allocated, and every index is checked.
 
-mod calls;
+mod answer;
 mod convert;
+mod fresh;
 mod naming;
+mod reach;
 mod restart;
+mod running;
 mod sets;
 mod slots;
 mod state;
 mod stores;
 
-pub use calls::{cut, fresh, give_back, join, lose, quiet, read, write};
+pub use answer::Answer;
+pub use fresh::fresh;
+pub use reach::{cut, give_back, lose};
 pub use restart::restart;
+pub use running::{join, quiet, read, write};
 pub use slots::{assemble, save};
-pub use state::{Answer, Label, State};
+pub use state::{Label, State};

@@ -1,34 +1,28 @@
 //! Restart.
 
+use super::answer::{refuse, Answer};
 use super::naming::named;
-use super::sets::{lowest, members};
-use super::state::{Answer, State};
+use super::sets::{lowest, members, without_lowest};
+use super::state::State;
 use super::stores::{carry_out, commit, on_each, Ended, Supply};
 use crate::refusal::{RUNNING, UNSOUND, WRONG_LENGTH};
 use crate::state::{BLOCK, REGION};
 
-/// Restart: 1, 2, 7, 13, 14, 15. "Then run with G = S."
+/// Restart: 1, 2, 7, 13, 14, 15. "At the end store C = S and T = 0 on every member, ascending. Then run with G = S."
 pub fn restart(state: State, area: &mut [u8], supply: u16) -> Answer {
-    match set_to_run(&state, area.len()) {
-        Err(number) => Answer::of(Err(number), state),
-        Ok(set) => carry_out(state, supply, set, |state, supply| {
-            mend(state, area, set, supply)?;
-            commit(state, set, supply)
-        }),
-    }
+    let set = set_to_run(&state, area.len());
+    carry_out(state, set, supply, |set, state, supply| {
+        mend(state, area, set, supply)?;
+        commit(state, set, supply)?;
+        Ok(set)
+    })
 }
 
 /// S, or the refusal.
 fn set_to_run(state: &State, area: usize) -> Result<u8, u8> {
-    if !state.is_sound() {
-        return Err(UNSOUND);
-    }
-    if area != state.area_length() {
-        return Err(WRONG_LENGTH);
-    }
-    if state.current != 0 {
-        return Err(RUNNING);
-    }
+    refuse(UNSOUND, !state.is_sound())?;
+    refuse(WRONG_LENGTH, area != state.area_length())?;
+    refuse(RUNNING, state.current != 0)?;
     named(state)
 }
 
@@ -56,7 +50,7 @@ fn copy_region(state: &State, area: &mut [u8], set: u8, region: usize, supply: &
 fn copy_block(state: &State, area: &mut [u8], set: u8, block: usize, supply: &mut Supply) -> Result<(), Ended> {
     let mut bytes = [0; BLOCK];
     bytes.copy_from_slice(&area[state.block_start(lowest(set), block)..][..BLOCK]);
-    for disk in members(set).skip(1) {
+    for disk in members(without_lowest(set)) {
         supply.take()?;
         area[state.block_start(disk, block)..][..BLOCK].copy_from_slice(&bytes);
     }

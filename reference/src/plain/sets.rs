@@ -8,9 +8,19 @@ pub(super) fn below(count: u8) -> u8 {
     }
 }
 
+/// Whether the number, which is below 8, is in the set.
+pub(super) fn has(set: u8, number: usize) -> bool {
+    set >> number & 1 == 1
+}
+
 /// "The lowest member is the one with the smallest number"; 8 of an empty set.
 pub(super) fn lowest(set: u8) -> usize {
     set.trailing_zeros() as usize
+}
+
+/// The set without its lowest member.
+pub(super) fn without_lowest(set: u8) -> u8 {
+    set & set.wrapping_sub(1)
 }
 
 /// The members, ascending.
@@ -26,7 +36,7 @@ impl Iterator for Members {
 
     fn next(&mut self) -> Option<usize> {
         let Members(rest) = *self;
-        self.0 &= rest.wrapping_sub(1);
+        self.0 = without_lowest(rest);
         (rest != 0).then(|| lowest(rest))
     }
 }

@@ -1,7 +1,6 @@
-//! States and answers without an enum, and when a state is sound.
+//! A state without an enum, and when it is sound.
 
-use super::sets::{below, members};
-use crate::refusal::DONE;
+use super::sets::{below, has, members};
 use crate::state::{regions, BLOCK};
 
 /// A disk's label.
@@ -30,28 +29,6 @@ pub struct State {
     pub labels: [Label; 8],
 }
 
-/// What a call gives.
-#[derive(Clone, Copy, Debug, Default, PartialEq, Eq)]
-pub struct Answer {
-    /// 0, or the refusal's number.
-    pub result: u8,
-    /// The number of stores made.
-    pub stores: u16,
-    /// The state that the call leaves.
-    pub state: State,
-}
-
-impl Answer {
-    /// The answer of a call without counted stores that leaves this state, refused or done.
-    pub(super) fn of(outcome: Result<(), u8>, state: State) -> Answer {
-        Answer {
-            result: outcome.err().unwrap_or(DONE),
-            stores: 0,
-            state,
-        }
-    }
-}
-
 impl State {
     /// "L means the members of G that are in reach."
     pub(super) fn live(&self) -> u8 {
@@ -78,36 +55,34 @@ impl State {
         members(set).fold(0, |map, disk| map | self.labels[disk].dirty)
     }
 
-    /// The disks of the set on which the dirty bit stands.
-    pub(super) fn dirty_disks(&self, set: u8, bit: u8) -> u8 {
-        let standing = |disk: &usize| self.labels[*disk].dirty & bit != 0;
-        members(set).filter(standing).fold(0, |disks, disk| disks | 1 << disk)
-    }
-
     /// "A state is sound when".
     pub(super) fn is_sound(&self) -> bool {
-        (1..=8).contains(&self.disks) && (1..=64).contains(&self.blocks) && self.wrong_bits() == 0
+        (1..=8).contains(&self.disks)
+            && (1..=64).contains(&self.blocks)
+            && (self.reach | self.current) & !below(self.disks) == 0
+            && self.labels_fit()
     }
 
-    /// Bits that stand against soundness, gathered without a branch. That C and T are 0 from n up needs no look of its
-    /// own: there a set would name its own disk, which does not exist.
-    fn wrong_bits(&self) -> u8 {
-        let (all, region_map) = (below(self.disks), self.region_map());
-        let mut wrong = (self.reach | self.current) & !all;
-        for (disk, label) in self.labels.iter().enumerate() {
-            let regions = if all >> disk & 1 == 1 { region_map } else { 0 };
-            wrong |= (label.committed | label.tentative) & !all;
-            wrong |= omits(label.committed, disk) | omits(label.tentative, disk);
-            wrong |= label.dirty & !regions;
-            if self.current >> disk & 1 == 1 {
-                wrong |= label.committed ^ self.current | label.tentative;
-            }
-        }
-        wrong
+    /// Each disk's label fits, and "labels from n up are all zero".
+    fn labels_fit(&self) -> bool {
+        let (labels, spare) = self.labels.split_at(self.disks.into());
+        let fits = |(disk, label)| self.label_fits(disk, label);
+        labels.iter().enumerate().all(fits) && spare.iter().all(|label| *label == Label::default())
+    }
+
+    /// Of a member "C = G and T = 0"; of others C and T name their own disk, and only disks below n. "Dirty bits name
+    /// existing regions."
+    fn label_fits(&self, disk: usize, label: &Label) -> bool {
+        let sets_fit = if has(self.current, disk) {
+            label.committed == self.current && label.tentative == 0
+        } else {
+            names_rightly(label.committed, disk, self.disks) && names_rightly(label.tentative, disk, self.disks)
+        };
+        sets_fit && label.dirty & !self.region_map() == 0
     }
 }
 
-/// 1 if the set is not empty and omits the disk, otherwise 0.
-pub(super) fn omits(set: u8, disk: usize) -> u8 {
-    u8::from(set != 0) & !(set >> disk) & 1
+/// Whether a C or T of this disk is 0, or names only disks below n and its own disk too.
+pub(super) fn names_rightly(set: u8, disk: usize, disks: u8) -> bool {
+    set == 0 || set & !below(disks) == 0 && has(set, disk)
 }

@@ -1,7 +1,8 @@
 //! "Each call that changes disks is a list of stores", made one by one as long as the supply lasts.
 
+use super::answer::Answer;
 use super::sets::members;
-use super::state::{Answer, Label, State};
+use super::state::{Label, State};
 use crate::refusal::{DONE, SUPPLY_ENDED};
 
 /// The list is longer than the supply.
@@ -26,21 +27,25 @@ impl Supply {
 }
 
 /// "If the list is longer than the supply, exactly the first supply stores are made, the cabinet is stopped, and the
-/// result is 15 with that count. Otherwise all are made", and the cabinet runs with `then`.
+/// result is 15 with that count. Otherwise all are made", and the cabinet runs with the set that the list yields. The
+/// list is made for the set that the call found, unless it refused.
 pub(super) fn carry_out(
     state: State,
+    found: Result<u8, u8>,
     supply: u16,
-    then: u8,
-    list: impl FnOnce(&mut State, &mut Supply) -> Result<(), Ended>,
+    list: impl FnOnce(u8, &mut State, &mut Supply) -> Result<u8, Ended>,
 ) -> Answer {
-    let mut answer = Answer::of(Ok(()), state);
+    let set = match found {
+        Err(number) => return Answer::of(number, state),
+        Ok(set) => set,
+    };
+    let mut answer = Answer::of(DONE, state);
     let mut left = Supply(supply);
-    let outcome = list(&mut answer.state, &mut left);
-    answer.stores = supply - left.0;
-    (answer.result, answer.state.current) = match outcome {
-        Ok(()) => (DONE, then),
+    (answer.result, answer.state.current) = match list(set, &mut answer.state, &mut left) {
+        Ok(current) => (DONE, current),
         Err(Ended) => (SUPPLY_ENDED, 0),
     };
+    answer.stores = supply - left.0;
     answer
 }
 
@@ -79,4 +84,16 @@ pub(super) fn move_to_live(state: &mut State, supply: &mut Supply) -> Result<(),
         live if live == state.current => Ok(()),
         live => move_to(state, live, supply),
     }
+}
+
+/// Sets or clears the dirty bit on each disk of the set, ascending, where it stands otherwise.
+pub(super) fn turn_dirty(state: &mut State, set: u8, bit: u8, on: bool, supply: &mut Supply) -> Result<(), Ended> {
+    for disk in members(set) {
+        let label = &mut state.labels[disk];
+        if (label.dirty & bit != 0) != on {
+            supply.take()?;
+            label.dirty ^= bit;
+        }
+    }
+    Ok(())
 }
