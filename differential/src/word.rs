@@ -1,5 +1,6 @@
-//! Bytes as a word of text: parts with commas between. A part is hexadecimal, of any length, or a run `START+STEP*COUNT`,
-//! in which each byte is the last one plus the step. Most blocks of the generators are one run, so that a disk area is short.
+//! Bytes as a word of text: parts with commas between. A part is hexadecimal, of any length, or a run
+//! `START+STEP*COUNT`, in which each byte is the last one plus the step. Most blocks of the generators are one run, so
+//! that a disk area is short.
 
 /// A run of fewer bytes is shorter as hexadecimal.
 const SHORTEST_RUN: usize = 5;

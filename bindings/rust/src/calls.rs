@@ -1,8 +1,8 @@
 //! The calls, each through its function of the proved library. All unsafe code of the crate is here.
 //!
 //! What makes it safe: the library keeps no pointer beyond the call, reads and writes a buffer only within the length
-//! given with it, and has no data of its own, so calls may be made from several threads at once. Each pointer and length
-//! below come from one Rust slice, which is valid for the call and which no other argument overlaps, since it is
+//! given with it, and has no data of its own, so calls may be made from several threads at once. Each pointer and
+//! length below come from one Rust slice, which is valid for the call and which no other argument overlaps, since it is
 //! borrowed. `State` and `RawAnswer` are laid out as C does and hold numbers only, so any bytes are good ones.
 
 use crate::answer::Answer;
@@ -74,8 +74,8 @@ impl State {
 
     /// Copies the block into `output`, which is of 64 bytes, from the lowest current disk that is in reach.
     ///
-    /// Refusals: 1 not sound, 2 the area's length, 3 the output's length, 6 stopped, 9 no such block, 12 no current disk
-    /// in reach.
+    /// Refusals: 1 not sound, 2 the area's length, 3 the output's length, 6 stopped, 9 no such block, 12 no current
+    /// disk in reach.
     pub fn read(self, area: &[u8], block: usize, output: &mut [u8]) -> Answer {
         let (to, length) = (output.as_mut_ptr(), output.len());
         // SAFETY: as the module says.
@@ -96,8 +96,8 @@ impl State {
     /// Makes a disk in reach current: it gets all blocks, then the cabinet moves to the current disks in reach and this
     /// one.
     ///
-    /// Refusals: 1 not sound, 2 the area's length, 6 stopped, 8 no such disk, 10 out of reach, 11 already current, 12 no
-    /// current disk in reach, 15 the power lost.
+    /// Refusals: 1 not sound, 2 the area's length, 6 stopped, 8 no such disk, 10 out of reach, 11 already current, 12
+    /// no current disk in reach, 15 the power lost.
     pub fn join(self, area: &mut [u8], disk: usize, budget: u16) -> Answer {
         // SAFETY: as the module says.
         unsafe { cabinet_join(self, area.as_mut_ptr(), area.len(), disk, budget) }.into()
@@ -150,9 +150,9 @@ impl State {
 
     /// The stopped cabinet that these slots were saved from, with the disks of the set `online` in reach.
     ///
-    /// Refusals: 4 the number of disks, 5 of blocks, 2 the length of the slots, 8 a disk in reach that is not there; then
-    /// slot by slot 17, 18, 19 and 20 of its label, 18 the label is another disk's, 22 a dirty bit without a region.
-    /// Refused, it yields the default state.
+    /// Refusals: 4 the number of disks, 5 of blocks, 2 the length of the slots, 8 a disk in reach that is not there;
+    /// then slot by slot 17, 18, 19 and 20 of its label, 18 the label is another disk's, 22 a dirty bit without a
+    /// region. Refused, it yields the default state.
     pub fn assemble(disks: usize, blocks: usize, online: u8, slots: &[u8]) -> Answer {
         // SAFETY: as the module says.
         unsafe { cabinet_assemble(disks, blocks, online, slots.as_ptr(), slots.len()) }.into()

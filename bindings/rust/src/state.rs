@@ -33,12 +33,12 @@ pub struct Label {
 }
 
 /// The state of a cabinet. The caller keeps it, beside the disk area, and gives each call the one that the last call
-/// yielded. Any values may stand in it, but one that is not sound is refused. The default state is all zero and stopped,
-/// and not sound.
+/// yielded. Any values may stand in it, but one that is not sound is refused. The default state is all zero and
+/// stopped, and not sound.
 ///
-/// "A state is sound when: n and b are in range; R, G, every C and every T name only disks below n; a C or T that is not
-/// 0 names its own disk; dirty bits name existing regions; labels from n up are all zero; and, when running, G is not
-/// empty and each member has C = G and T = 0." A region is 8 blocks.
+/// "A state is sound when: n and b are in range; R, G, every C and every T name only disks below n; a C or T that is
+/// not 0 names its own disk; dirty bits name existing regions; labels from n up are all zero; and, when running, G is
+/// not empty and each member has C = G and T = 0." A region is 8 blocks.
 #[repr(C)]
 #[derive(Clone, Copy, Debug, Default, PartialEq, Eq, Hash)]
 pub struct State {

@@ -55,8 +55,8 @@ fn kept(place: &mut state::State, (answer, state): (Answer, state::State)) -> An
     answer
 }
 
-/// The reference's numbers are those of the cabinet program, of 16 bits. A larger one is given as 65,535: no call takes a
-/// number above 64, and each refuses all that are larger alike.
+/// The reference's numbers are those of the cabinet program, of 16 bits. A larger one is given as 65,535: no call takes
+/// a number above 64, and each refuses all that are larger alike.
 fn narrow(number: usize) -> u16 {
     u16::try_from(number).unwrap_or(u16::MAX)
 }
