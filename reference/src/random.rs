@@ -42,4 +42,16 @@ impl Random {
     pub fn pick<T: Copy>(&mut self, choices: &[T]) -> T {
         choices[self.below(choices.len())]
     }
+
+    /// One of the choices, each with its share of a hundred. The last one has what the others leave.
+    pub fn pick_by_share<T: Copy>(&mut self, choices: &[(T, usize)]) -> T {
+        let mut left = self.below(100);
+        for &(choice, share) in choices {
+            match left.checked_sub(share) {
+                Some(rest) => left = rest,
+                None => return choice,
+            }
+        }
+        choices[choices.len() - 1].0
+    }
 }

@@ -80,16 +80,9 @@ impl Session {
 
     /// A kind, by the mix.
     fn kind(&mut self) -> Kind {
-        let stopped = self.program.state().is_stopped();
-        let mut left = self.random.below(100);
-        for (kind, running_share, stopped_share) in MIX {
-            let share = if stopped { stopped_share } else { running_share };
-            match left.checked_sub(share) {
-                Some(rest) => left = rest,
-                None => return kind,
-            }
-        }
-        Kind::Bad
+        let is_stopped = self.program.state().is_stopped();
+        let share = |(kind, running, stopped)| (kind, if is_stopped { stopped } else { running });
+        self.random.pick_by_share(&MIX.map(share))
     }
 
     /// A line of this kind.

@@ -1,0 +1,125 @@
+//! The two sides: the proved calls by the bindings, and the same calls in plain Rust.
+
+use crate::rows::{Buffers, Call, Row, BLOCK, BLOCKS, DISK, DISKS, SUPPLY};
+use crate::timing::repeat;
+use reference::plain;
+use std::hint::black_box;
+use std::time::Duration;
+
+/// The calls of a side by the product's names. States and answers are its own, so that no conversion is timed.
+pub struct Side<S, A> {
+    format: fn(usize, usize, &mut [u8]) -> A,
+    read: fn(S, &[u8], usize, &mut [u8]) -> A,
+    write: fn(S, &mut [u8], usize, &[u8], u16) -> A,
+    join: fn(S, &mut [u8], usize, u16) -> A,
+    clean: fn(S, u16) -> A,
+    restart: fn(S, &mut [u8], u16) -> A,
+    detach: fn(S, usize) -> A,
+    attach: fn(S, usize) -> A,
+    power_off: fn(S) -> A,
+    save: fn(S, &mut [u8]) -> A,
+    assemble: fn(usize, usize, u8, &[u8]) -> A,
+    state: fn(plain::State) -> S,
+    answer: fn(A) -> plain::Answer,
+}
+
+/// The proved product.
+pub const PROVED: Side<cabinet::State, cabinet::Answer> = Side {
+    format: cabinet::State::format,
+    read: cabinet::State::read,
+    write: cabinet::State::write,
+    join: cabinet::State::join,
+    clean: cabinet::State::clean,
+    restart: cabinet::State::restart,
+    detach: cabinet::State::detach,
+    attach: cabinet::State::attach,
+    power_off: cabinet::State::power_off,
+    save: cabinet::State::save,
+    assemble: cabinet::State::assemble,
+    state: proved_state,
+    answer: plain_answer,
+};
+
+/// Plain Rust.
+pub const PLAIN: Side<plain::State, plain::Answer> = Side {
+    format: plain::fresh,
+    read: plain::read,
+    write: plain::write,
+    join: plain::join,
+    clean: plain::quiet,
+    restart: plain::restart,
+    detach: plain::lose,
+    attach: plain::give_back,
+    power_off: plain::cut,
+    save: plain::save,
+    assemble: plain::assemble,
+    state: |state| state,
+    answer: |answer| answer,
+};
+
+fn proved_state(state: plain::State) -> cabinet::State {
+    cabinet::State {
+        disks: state.disks,
+        blocks: state.blocks,
+        online: state.reach,
+        current: state.current,
+        labels: state.labels.map(|label| cabinet::Label {
+            committed: label.committed,
+            tentative: label.tentative,
+            dirty: label.dirty,
+        }),
+    }
+}
+
+fn plain_answer(answer: cabinet::Answer) -> plain::Answer {
+    let state = answer.state;
+    plain::Answer {
+        result: answer.outcome.err().map_or(0, cabinet::Refusal::number),
+        stores: answer.stores,
+        state: plain::State {
+            disks: state.disks,
+            blocks: state.blocks,
+            reach: state.online,
+            current: state.current,
+            labels: state.labels.map(|label| plain::Label {
+                committed: label.committed,
+                tentative: label.tentative,
+                dirty: label.dirty,
+            }),
+        },
+    }
+}
+
+impl<S: Copy, A> Side<S, A> {
+    /// Makes the row's call so many times, each on the row's state, and gives the time of all and the last answer. The
+    /// calls go through pointers that the compiler cannot see through, so that none is inlined into the loop.
+    pub fn run(&self, row: &Row, buffers: &mut Buffers, calls: usize) -> (Duration, plain::Answer) {
+        let side = black_box(self);
+        let state = (side.state)(row.state);
+        let state = || black_box(state);
+        let (disk, block, supply) = (|| black_box(DISK), || black_box(BLOCK), || black_box(SUPPLY));
+        let (disks, blocks) = (|| black_box(DISKS), || black_box(BLOCKS));
+        let (area, data, slots) = (&mut buffers.area[..], &mut buffers.block[..], &mut buffers.slots[..]);
+        let (time, answer) = match row.call {
+            Call::Format => repeat(calls, || (side.format)(disks(), blocks(), black_box(area))),
+            Call::Read => repeat(calls, || {
+                (side.read)(state(), black_box(area), block(), black_box(data))
+            }),
+            Call::Write => repeat(calls, || {
+                (side.write)(state(), black_box(area), block(), black_box(data), supply())
+            }),
+            Call::Join => repeat(calls, || (side.join)(state(), black_box(area), disk(), supply())),
+            Call::Clean => repeat(calls, || (side.clean)(state(), supply())),
+            Call::Restart => repeat(calls, || (side.restart)(state(), black_box(area), supply())),
+            Call::Detach => repeat(calls, || (side.detach)(state(), disk())),
+            Call::Attach => repeat(calls, || (side.attach)(state(), disk())),
+            Call::PowerOff => repeat(calls, || (side.power_off)(state())),
+            Call::Save => repeat(calls, || (side.save)(state(), black_box(slots))),
+            Call::Assemble => {
+                let reach = || black_box(row.state.reach);
+                repeat(calls, || (side.assemble)(disks(), blocks(), reach(), black_box(slots)))
+            }
+        };
+        (time, (side.answer)(answer))
+    }
+}

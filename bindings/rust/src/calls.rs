@@ -1,0 +1,160 @@
+//! The calls, each through its function of the proved library. All unsafe code of the crate is here.
+//!
+//! What makes it safe: the library keeps no pointer beyond the call, reads and writes a buffer only within the length
+//! given with it, and has no data of its own, so calls may be made from several threads at once. Each pointer and
+//! length below come from one Rust slice, which is valid for the call and which no other argument overlaps, since it is
+//! borrowed. `State` and `RawAnswer` are laid out as C does and hold numbers only, so any bytes are good ones.
+
+use crate::answer::Answer;
+use crate::refusal;
+use crate::state::State;
+
+/// The answer as the library gives it.
+#[repr(C)]
+struct RawAnswer {
+    stores: u16,
+    refusal: u8,
+    state: State,
+}
+
+const _: () = assert!(size_of::<State>() == 28 && size_of::<RawAnswer>() == 32);
+
+impl From<RawAnswer> for Answer {
+    fn from(raw: RawAnswer) -> Answer {
+        Answer {
+            outcome: refusal::outcome(raw.refusal),
+            stores: raw.stores,
+            state: raw.state,
+        }
+    }
+}
+
+// SAFETY: these are the library's declarations, a slice being a pointer and then a length; see above.
+unsafe extern "C" {
+    fn cabinet_format(disks: usize, blocks: usize, area: *mut u8, area_length: usize) -> RawAnswer;
+    fn cabinet_read(
+        state: State,
+        area: *const u8,
+        area_length: usize,
+        block: usize,
+        output: *mut u8,
+        output_length: usize,
+    ) -> RawAnswer;
+    fn cabinet_write(
+        state: State,
+        area: *mut u8,
+        area_length: usize,
+        block: usize,
+        data: *const u8,
+        data_length: usize,
+        budget: u16,
+    ) -> RawAnswer;
+    fn cabinet_join(state: State, area: *mut u8, area_length: usize, disk: usize, budget: u16) -> RawAnswer;
+    safe fn cabinet_clean(state: State, budget: u16) -> RawAnswer;
+    fn cabinet_restart(state: State, area: *mut u8, area_length: usize, budget: u16) -> RawAnswer;
+    safe fn cabinet_detach(state: State, disk: usize) -> RawAnswer;
+    safe fn cabinet_attach(state: State, disk: usize) -> RawAnswer;
+    safe fn cabinet_power_off(state: State) -> RawAnswer;
+    fn cabinet_save(state: State, slots: *mut u8, slots_length: usize) -> RawAnswer;
+    fn cabinet_assemble(disks: usize, blocks: usize, online: u8, slots: *const u8, slots_length: usize) -> RawAnswer;
+}
+
+/// The calls. None asks anything of its caller: each takes whatever it is given, and refuses what does not fit by the
+/// first of its [refusals](crate::Refusal) whose condition holds, in the order given here. `budget` is the number of
+/// stores that the power lasts for (the paper's supply).
+impl State {
+    /// A new cabinet (the paper's fresh): all disks in reach and current, no block dirty, the area all zero.
+    ///
+    /// Refusals: 4 the number of disks, 5 of blocks, 2 the area's length. Refused, it yields the default state and
+    /// leaves the area.
+    pub fn format(disks: usize, blocks: usize, area: &mut [u8]) -> Answer {
+        // SAFETY: as the module says.
+        unsafe { cabinet_format(disks, blocks, area.as_mut_ptr(), area.len()) }.into()
+    }
+
+    /// Copies the block into `output`, which is of 64 bytes, from the lowest current disk that is in reach.
+    ///
+    /// Refusals: 1 not sound, 2 the area's length, 3 the output's length, 6 stopped, 9 no such block, 12 no current
+    /// disk in reach.
+    pub fn read(self, area: &[u8], block: usize, output: &mut [u8]) -> Answer {
+        let (to, length) = (output.as_mut_ptr(), output.len());
+        // SAFETY: as the module says.
+        unsafe { cabinet_read(self, area.as_ptr(), area.len(), block, to, length) }.into()
+    }
+
+    /// Writes the 64 bytes of `data` as the block, on each current disk that is in reach. If some are not, the
+    /// cabinet first moves to those that are.
+    ///
+    /// Refusals: 1 not sound, 2 the area's length, 3 the data's length, 6 stopped, 9 no such block, 12 no current disk
+    /// in reach, 15 the power lost.
+    pub fn write(self, area: &mut [u8], block: usize, data: &[u8], budget: u16) -> Answer {
+        let (from, length) = (data.as_ptr(), data.len());
+        // SAFETY: as the module says.
+        unsafe { cabinet_write(self, area.as_mut_ptr(), area.len(), block, from, length, budget) }.into()
+    }
+
+    /// Makes a disk in reach current: it gets all blocks, then the cabinet moves to the current disks in reach and this
+    /// one.
+    ///
+    /// Refusals: 1 not sound, 2 the area's length, 6 stopped, 8 no such disk, 10 out of reach, 11 already current, 12
+    /// no current disk in reach, 15 the power lost.
+    pub fn join(self, area: &mut [u8], disk: usize, budget: u16) -> Answer {
+        // SAFETY: as the module says.
+        unsafe { cabinet_join(self, area.as_mut_ptr(), area.len(), disk, budget) }.into()
+    }
+
+    /// Clears the dirty bits of the current disks in reach (the paper's quiet), so that a restart need not copy.
+    ///
+    /// Refusals: 1 not sound, 6 stopped, 12 no current disk in reach, 15 the power lost.
+    pub fn clean(self, budget: u16) -> Answer {
+        cabinet_clean(self, budget).into()
+    }
+
+    /// Starts a stopped cabinet: finds the current set from the labels in reach, makes its dirty regions equal and runs
+    /// with it.
+    ///
+    /// Refusals: 1 not sound, 2 the area's length, 7 running, 13 no set, 14 several sets, 15 the power lost.
+    pub fn restart(self, area: &mut [u8], budget: u16) -> Answer {
+        // SAFETY: as the module says.
+        unsafe { cabinet_restart(self, area.as_mut_ptr(), area.len(), budget) }.into()
+    }
+
+    /// The disk is pulled out (the paper's lose). Done, with no effect, for one that is out of reach.
+    ///
+    /// Refusals: 1 not sound, 8 no such disk.
+    pub fn detach(self, disk: usize) -> Answer {
+        cabinet_detach(self, disk).into()
+    }
+
+    /// The disk is pushed back (the paper's return). It is current again if the cabinet has not moved on without it.
+    ///
+    /// Refusals: 1 not sound, 8 no such disk.
+    pub fn attach(self, disk: usize) -> Answer {
+        cabinet_attach(self, disk).into()
+    }
+
+    /// The power goes (the paper's cut). Done, with no effect, for a stopped cabinet.
+    ///
+    /// Refusals: 1 not sound.
+    pub fn power_off(self) -> Answer {
+        cabinet_power_off(self).into()
+    }
+
+    /// Writes the labels into `slots`, 5 bytes a disk. The number of blocks and the disks in reach are not in them.
+    ///
+    /// Refusals: 1 not sound, 2 the length of the slots.
+    pub fn save(self, slots: &mut [u8]) -> Answer {
+        // SAFETY: as the module says.
+        unsafe { cabinet_save(self, slots.as_mut_ptr(), slots.len()) }.into()
+    }
+
+    /// The stopped cabinet that these slots were saved from, with the disks of the set `online` in reach.
+    ///
+    /// Refusals: 4 the number of disks, 5 of blocks, 2 the length of the slots, 8 a disk in reach that is not there;
+    /// then slot by slot 17, 18, 19 and 20 of its label, 18 the label is another disk's, 22 a dirty bit without a
+    /// region. Refused, it yields the default state.
+    pub fn assemble(disks: usize, blocks: usize, online: u8, slots: &[u8]) -> Answer {
+        // SAFETY: as the module says.
+        unsafe { cabinet_assemble(disks, blocks, online, slots.as_ptr(), slots.len()) }.into()
+    }
+}

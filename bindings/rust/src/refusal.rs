@@ -1,0 +1,112 @@
+//! Why a call was refused: the numbers of 'What each call refuses'.
+
+use std::fmt;
+
+/// Makes the enum, its numbers and its texts from one table, so that each refusal is said once.
+macro_rules! refusals {
+    ($($number:literal $name:ident $text:literal)*) => {
+        /// Why a call was refused. The cases are the paper's; [`Refusal::number`] gives its number for each.
+        ///
+        /// The paper's 21 is not among them: it belongs to the writing of one label into a buffer of its own, which no
+        /// call of this crate does. 16 is, since [`State::assemble`](crate::State::assemble) passes on what the reader
+        /// of labels refuses; but a slot has room for any label, so no call gives it.
+        #[derive(Clone, Copy, Debug, PartialEq, Eq, Hash)]
+        pub enum Refusal {
+            $(#[doc = concat!($number, ": ", $text, ".")] $name,)*
+            /// A number that none of these calls has. The proved library never gives one.
+            Unknown(u8),
+        }
+
+        impl Refusal {
+            /// The paper's number.
+            pub fn number(self) -> u8 {
+                match self {
+                    $(Refusal::$name => $number,)*
+                    Refusal::Unknown(number) => number,
+                }
+            }
+
+            /// The refusal of a number.
+            fn of(number: u8) -> Refusal {
+                match number {
+                    $($number => Refusal::$name,)*
+                    _ => Refusal::Unknown(number),
+                }
+            }
+
+            /// The condition on which it falls.
+            fn text(self) -> &'static str {
+                match self {
+                    $(Refusal::$name => $text,)*
+                    Refusal::Unknown(_) => "not a refusal of this call",
+                }
+            }
+        }
+    };
+}
+
+refusals! {
+    1 Unsound "the state is not sound"
+    2 BufferLength "the disk area or the slot buffer has a wrong length"
+    3 BlockLength "the data or the output is not 64 bytes"
+    4 DiskCount "the number of disks is outside 1 to 8"
+    5 BlockCount "the number of blocks is outside 1 to 64"
+    6 Stopped "the cabinet is stopped"
+    7 Running "the cabinet is running"
+    8 NoSuchDisk "there is no disk of this number"
+    9 NoSuchBlock "there is no block of this number"
+    10 DiskOffline "the disk is out of reach"
+    11 DiskCurrent "the disk is in the current set"
+    12 NoneLive "no member of the current set is in reach"
+    13 NoSet "the labels in reach name no set"
+    14 SeveralSets "the labels in reach name more than one set"
+    15 PowerLost "the power went before the last store"
+    16 LabelCutShort "there are fewer bytes than the label has"
+    17 LabelMap "a bit that names no field stands in the label's map"
+    18 LabelPlace "the label's disk number or number of disks is not its slot's"
+    19 LabelEmptyField "a field that the label's map names is 0"
+    20 LabelSet "a set of the label names a disk that is not there, or omits its own"
+    22 NoSuchRegion "a dirty bit of the label names no region"
+}
+
+/// The outcome of a result's number, of which 0 is "a done call".
+pub(crate) fn outcome(number: u8) -> Result<(), Refusal> {
+    match number {
+        0 => Ok(()),
+        _ => Err(Refusal::of(number)),
+    }
+}
+
+impl fmt::Display for Refusal {
+    fn fmt(&self, f: &mut fmt::Formatter<'_>) -> fmt::Result {
+        write!(f, "refused with {}: {}", self.number(), self.text())
+    }
+}
+
+impl std::error::Error for Refusal {}
+
+#[cfg(test)]
+mod tests {
+    use super::*;
+
+    #[test]
+    fn every_number_keeps_its_value() {
+        assert_eq!(outcome(0), Ok(()));
+        for number in 1..=255 {
+            assert_eq!(outcome(number).map_err(Refusal::number), Err(number));
+        }
+    }
+
+    #[test]
+    fn the_cases_are_the_papers() {
+        let is_known = |&number: &u8| !matches!(Refusal::of(number), Refusal::Unknown(_));
+        let known: Vec<u8> = (0..=255).filter(is_known).collect();
+        let papers: Vec<u8> = (1..=20).chain([22]).collect();
+        assert_eq!(known, papers);
+    }
+
+    #[test]
+    fn a_refusal_says_its_number_and_condition() {
+        assert_eq!(Refusal::Stopped.to_string(), "refused with 6: the cabinet is stopped");
+    }
+}

@@ -1,0 +1,55 @@
+//! The cabinet's state and its size.
+
+/// The bytes of a block.
+pub const BLOCK_SIZE: usize = 64;
+/// The bytes of a disk's slot in the saved form.
+pub const SLOT_SIZE: usize = 5;
+/// The most disks that a cabinet has.
+pub const MOST_DISKS: usize = 8;
+/// The most blocks that a disk has.
+pub const MOST_BLOCKS: usize = 64;
+
+/// The length of the disk area, "one lent buffer of exactly n × b × 64 bytes"; `None` if there is no cabinet of so many
+/// disks and blocks.
+pub const fn area_length(disks: usize, blocks: usize) -> Option<usize> {
+    let exists = 1 <= disks && disks <= MOST_DISKS && 1 <= blocks && blocks <= MOST_BLOCKS;
+    if exists {
+        Some(disks * blocks * BLOCK_SIZE)
+    } else {
+        None
+    }
+}
+
+/// A disk's label. A set of disks is one byte, bit d for disk d.
+#[repr(C)]
+#[derive(Clone, Copy, Debug, Default, PartialEq, Eq, Hash)]
+pub struct Label {
+    /// The committed set C; 0 if the disk has never been a member.
+    pub committed: u8,
+    /// The tentative set T; 0 for none.
+    pub tentative: u8,
+    /// The dirty map, bit r for region r.
+    pub dirty: u8,
+}
+
+/// The state of a cabinet. The caller keeps it, beside the disk area, and gives each call the one that the last call
+/// yielded. Any values may stand in it, but one that is not sound is refused. The default state is all zero and
+/// stopped, and not sound.
+///
+/// "A state is sound when: n and b are in range; R, G, every C and every T name only disks below n; a C or T that is
+/// not 0 names its own disk; dirty bits name existing regions; labels from n up are all zero; and, when running, G is
+/// not empty and each member has C = G and T = 0." A region is 8 blocks.
+#[repr(C)]
+#[derive(Clone, Copy, Debug, Default, PartialEq, Eq, Hash)]
+pub struct State {
+    /// The number of disks, n.
+    pub disks: u8,
+    /// The number of blocks a disk, b.
+    pub blocks: u8,
+    /// The set of disks in reach, R.
+    pub online: u8,
+    /// The current set, G; 0 when the cabinet is stopped.
+    pub current: u8,
+    /// The labels, that of disk d at d.
+    pub labels: [Label; MOST_DISKS],
+}

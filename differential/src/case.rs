@@ -1,0 +1,110 @@
+//! A case: one call, with everything that goes into it.
+
+use reference::plain::State;
+
+/// The calls, by the paper's names.
+#[derive(Clone, Copy, Debug, PartialEq, Eq, PartialOrd, Ord)]
+pub enum Call {
+    /// Fresh: n, b; the area.
+    Fresh,
+    /// Read: the state, the area, k; the output.
+    Read,
+    /// Write: the state, the area, k, the supply; the data.
+    Write,
+    /// Join: the state, the area, d, the supply.
+    Join,
+    /// Quiet: the state, the supply.
+    Quiet,
+    /// Restart: the state, the area, the supply.
+    Restart,
+    /// Lose: the state, d.
+    Lose,
+    /// Return: the state, d.
+    Return,
+    /// Cut: the state.
+    Cut,
+    /// Save: the state; the slots.
+    Save,
+    /// Assemble: n, b, R; the slots.
+    Assemble,
+}
+
+impl Call {
+    /// Every call, with its name in a line.
+    pub const ALL: [(Call, &'static str); 11] = [
+        (Call::Fresh, "fresh"),
+        (Call::Read, "read"),
+        (Call::Write, "write"),
+        (Call::Join, "join"),
+        (Call::Quiet, "quiet"),
+        (Call::Restart, "restart"),
+        (Call::Lose, "lose"),
+        (Call::Return, "return"),
+        (Call::Cut, "cut"),
+        (Call::Save, "save"),
+        (Call::Assemble, "assemble"),
+    ];
+
+    /// Its name.
+    pub fn name(self) -> &'static str {
+        Call::ALL[self as usize].1
+    }
+
+    /// "Fresh and assembling are given no state."
+    pub fn takes_state(self) -> bool {
+        !matches!(self, Call::Fresh | Call::Assemble)
+    }
+
+    /// Whether it takes the disk area.
+    pub fn takes_area(self) -> bool {
+        matches!(
+            self,
+            Call::Fresh | Call::Read | Call::Write | Call::Join | Call::Restart
+        )
+    }
+
+    /// Whether it "changes disks" and so takes a supply.
+    pub fn takes_supply(self) -> bool {
+        matches!(self, Call::Write | Call::Join | Call::Quiet | Call::Restart)
+    }
+}
+
+/// A call with its arguments. What the call does not take is zero or empty.
+#[derive(Clone, Debug, PartialEq, Eq)]
+pub struct Case {
+    /// The call.
+    pub call: Call,
+    /// The state.
+    pub state: State,
+    /// n, of a call that is given no state.
+    pub disks: usize,
+    /// b, of a call that is given no state.
+    pub blocks: usize,
+    /// R, of an assemble.
+    pub reach: u8,
+    /// The number k of a block or d of a disk.
+    pub number: usize,
+    /// The supply.
+    pub supply: u16,
+    /// The disk area.
+    pub area: Vec<u8>,
+    /// The output of a read, the data of a write, or the slots.
+    pub buffer: Vec<u8>,
+}
+
+impl Case {
+    /// The call with nothing in it.
+    pub fn new(call: Call) -> Case {
+        Case {
+            call,
+            state: State::default(),
+            disks: 0,
+            blocks: 0,
+            reach: 0,
+            number: 0,
+            supply: 0,
+            area: Vec::new(),
+            buffer: Vec::new(),
+        }
+    }
+}

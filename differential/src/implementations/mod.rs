@@ -1,0 +1,37 @@
+//! The implementations that are compared: each makes a case's call, and says what it gave.
+
+mod guarded;
+mod oracle;
+mod plain;
+mod proved;
+
+pub use oracle::Reference;
+pub use plain::Plain;
+pub use proved::Proved;
+
+use crate::case::Case;
+use reference::plain::State;
+
+/// What a call gave: everything that can differ.
+#[derive(Clone, Debug, PartialEq, Eq)]
+pub struct Outcome {
+    /// 0, or the refusal's number.
+    pub result: u8,
+    /// The number of stores made.
+    pub stores: usize,
+    /// The state.
+    pub state: State,
+    /// The disk area after the call, whether the call may change it or not.
+    pub area: Vec<u8>,
+    /// The output, the data or the slots after the call, whether it may change them or not.
+    pub buffer: Vec<u8>,
+}
+
+/// An implementation of the calls.
+pub trait Implementation {
+    /// Its name in a report.
+    fn name(&self) -> &'static str;
+
+    /// Makes the call.
+    fn make(&self, case: Case) -> Outcome;
+}

@@ -1,0 +1,62 @@
+//! The reference, which decides what is right.
+
+use super::{Implementation, Outcome};
+use crate::case::{Call, Case};
+use reference::cabinet::{fresh, Answer, Cabinet};
+use reference::mistakes::Rules;
+use reference::sets::DiskSet;
+use reference::{slots, state};
+
+/// The reference, by the paper's rules or by the paper's with a mistake.
+pub struct Reference(pub Rules);
+
+impl Implementation for Reference {
+    fn name(&self) -> &'static str {
+        "reference"
+    }
+
+    fn make(&self, case: Case) -> Outcome {
+        let (rules, state, supply) = (self.0, case.state.into(), case.supply);
+        let (mut buffer, area) = (case.buffer, case.area);
+        let (disks, blocks, number) = (narrow(case.disks), narrow(case.blocks), narrow(case.number));
+        let mut cabinet = Cabinet { rules, state, area };
+        let answer = match case.call {
+            Call::Fresh => kept(&mut cabinet.state, fresh(rules, disks, blocks, &mut cabinet.area)),
+            Call::Read => cabinet.read(number, &mut buffer),
+            Call::Write => cabinet.write(number, &buffer, supply),
+            Call::Join => cabinet.join(number, supply),
+            Call::Quiet => cabinet.quiet(supply),
+            Call::Restart => cabinet.restart(supply),
+            Call::Lose => cabinet.lose(number),
+            Call::Return => cabinet.give_back(number),
+            Call::Cut => cabinet.cut(),
+            Call::Save => slots::save(rules, &cabinet.state, &mut buffer),
+            Call::Assemble => {
+                let reach = DiskSet(case.reach);
+                kept(
+                    &mut cabinet.state,
+                    slots::assemble(rules, disks, blocks, reach, &buffer),
+                )
+            }
+        };
+        Outcome {
+            result: answer.result,
+            stores: answer.stores,
+            state: cabinet.state.into(),
+            area: cabinet.area,
+            buffer,
+        }
+    }
+}
+
+/// The answer of a call that is given no state and yields one, which is kept.
+fn kept(place: &mut state::State, (answer, state): (Answer, state::State)) -> Answer {
+    *place = state;
+    answer
+}
+
+/// The reference's numbers are those of the cabinet program, of 16 bits. A larger one is given as 65,535: no call takes
+/// a number above 64, and each refuses all that are larger alike.
+fn narrow(number: usize) -> u16 {
+    u16::try_from(number).unwrap_or(u16::MAX)
+}

@@ -1,0 +1,64 @@
+//! The implementations agree, and the generators reach every result of every call.
+
+use differential::arbitrary::Arbitrary;
+use differential::case::Call;
+use differential::comparison::{run, Source};
+use differential::counts::Counts;
+use differential::histories::Histories;
+use differential::implementations::{Plain, Proved, Reference};
+use reference::mistakes::Rules;
+use reference::random::Random;
+
+/// The calls of a part.
+const CALLS: usize = 300_000;
+
+/// How often each result is to be given at least.
+const OFTEN: usize = 150;
+
+/// The results that each call can give. Assembling passes on the label's own refusals, but for 16: a slot has 5 bytes,
+/// and no label is longer. 21 is label writing's, and a save's slots have room.
+const RESULTS: [(Call, &[u8]); 11] = [
+    (Call::Fresh, &[0, 2, 4, 5]),
+    (Call::Read, &[0, 1, 2, 3, 6, 9, 12]),
+    (Call::Write, &[0, 1, 2, 3, 6, 9, 12, 15]),
+    (Call::Join, &[0, 1, 2, 6, 8, 10, 11, 12, 15]),
+    (Call::Quiet, &[0, 1, 6, 12, 15]),
+    (Call::Restart, &[0, 1, 2, 7, 13, 14, 15]),
+    (Call::Lose, &[0, 1, 8]),
+    (Call::Return, &[0, 1, 8]),
+    (Call::Cut, &[0, 1]),
+    (Call::Save, &[0, 1, 2]),
+    (Call::Assemble, &[0, 2, 4, 5, 8, 17, 18, 19, 20, 22]),
+];
+
+/// What all three give for the cases of this source.
+fn counts(mut source: impl Source) -> Counts {
+    let all = run(&[&Proved, &Reference(Rules::PAPER), &Plain], &mut source, CALLS);
+    all.unwrap_or_else(|difference| panic!("{difference}"))
+}
+
+#[test]
+fn histories_agree() {
+    let counts = counts(Histories::new(Random::new(1)));
+    assert_eq!(counts.total(), CALLS);
+    for (call, _) in Call::ALL {
+        assert_eq!(
+            counts.of(call, 1),
+            0,
+            "every state of a history is sound: {}",
+            call.name()
+        );
+    }
+    assert_eq!(counts.of(Call::Restart, 14), 0, "\"no restart in the list gives 14\"");
+}
+
+#[test]
+fn arbitrary_cases_agree_and_each_call_gives_all_its_results() {
+    let counts = counts(Arbitrary(Random::new(1)));
+    assert_eq!(counts.total(), CALLS);
+    for (call, results) in RESULTS {
+        assert_eq!(counts.results(call), results, "{}", call.name());
+        let seldom = |result: &&u8| counts.of(call, **result) < OFTEN;
+        assert_eq!(results.iter().find(seldom), None, "{} seldom gives this", call.name());
+    }
+}

@@ -1,0 +1,53 @@
+//! From the reference's states and back. A running state with no current disk, which is unsound, has no form here, and
+//! becomes a stopped one.
+
+use super::state::{Label, State};
+use crate::sets::DiskSet;
+use crate::{label, state};
+
+impl From<label::Label> for Label {
+    fn from(label: label::Label) -> Label {
+        Label {
+            committed: label.committed.0,
+            tentative: label.tentative.0,
+            dirty: label.dirty,
+        }
+    }
+}
+
+impl From<Label> for label::Label {
+    fn from(label: Label) -> label::Label {
+        label::Label {
+            committed: DiskSet(label.committed),
+            tentative: DiskSet(label.tentative),
+            dirty: label.dirty,
+        }
+    }
+}
+
+impl From<state::State> for State {
+    fn from(state: state::State) -> State {
+        State {
+            disks: state.disks,
+            blocks: state.blocks,
+            reach: state.reach.0,
+            current: state.current().0,
+            labels: state.labels.map(Label::from),
+        }
+    }
+}
+
+impl From<State> for state::State {
+    fn from(state: State) -> state::State {
+        state::State {
+            disks: state.disks,
+            blocks: state.blocks,
+            reach: DiskSet(state.reach),
+            power: match state.current {
+                0 => state::Power::Stopped,
+                current => state::Power::Running(DiskSet(current)),
+            },
+            labels: state.labels.map(label::Label::from),
+        }
+    }
+}

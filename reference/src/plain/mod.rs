@@ -1,0 +1,26 @@
+//! The calls once more, for speed: what an engineer writes who has the paper and no proofs. The benchmark compares the
+//! proved product with it.
+//!
+//! It keeps the paper's method: the same stores in the same order, counted one by one. Stores of blocks that are
+//! neighbours both in the list and in the area go to one copy. Numbers, states and buffers may be anything: what does
+//! not fit is refused. Nothing is allocated, and every index is checked.
+
+mod answer;
+mod convert;
+mod fresh;
+mod naming;
+mod reach;
+mod restart;
+mod running;
+mod sets;
+mod slots;
+mod state;
+mod stores;
+
+pub use answer::Answer;
+pub use fresh::fresh;
+pub use reach::{cut, give_back, lose};
+pub use restart::restart;
+pub use running::{join, quiet, read, write};
+pub use slots::{assemble, save};
+pub use state::{Label, State};

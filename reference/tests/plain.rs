@@ -1,0 +1,270 @@
+//! The calls in `plain` give what the reference's give: answer, state and every buffer, on any state and any numbers.
+
+use reference::cabinet::{self, Cabinet};
+use reference::call::Call;
+use reference::mistakes::Rules;
+use reference::plain::{self, Answer, Label, State};
+use reference::random::Random;
+use reference::sets::DiskSet;
+use reference::slots;
+use std::collections::BTreeSet;
+
+/// The calls that are compared.
+const CALLS: usize = 400_000;
+/// The numbers of the calls, and the results that each can give.
+const RESULTS: [&[u8]; 11] = [
+    &[0, 1, 2, 3, 6, 9, 12],
+    &[0, 1, 2, 3, 6, 9, 12, 15],
+    &[0, 1, 2, 6, 8, 10, 11, 12, 15],
+    &[0, 1, 6, 12, 15],
+    &[0, 1, 2, 7, 13, 14, 15],
+    &[0, 1, 8],
+    &[0, 1, 8],
+    &[0, 1],
+    &[0, 2, 4, 5],
+    &[0, 1, 2],
+    &[0, 2, 4, 5, 8, 17, 18, 19, 20, 22],
+];
+const FRESH: usize = 8;
+const SAVE: usize = 9;
+const ASSEMBLE: usize = 10;
+
+#[test]
+fn plain_calls_give_what_the_reference_gives() {
+    let mut random = Random::new(1);
+    let mut seen = BTreeSet::new();
+    for _ in 0..CALLS {
+        let kind = random.below(RESULTS.len());
+        let result = match kind {
+            FRESH => fresh(&mut random),
+            SAVE => save(&mut random),
+            ASSEMBLE => assemble(&mut random),
+            _ => call_on_state(&mut random, kind),
+        };
+        seen.insert((kind, result));
+    }
+    let each = |(kind, results): (usize, &&'static [u8])| results.iter().map(move |&result| (kind, result));
+    assert_eq!(seen, RESULTS.iter().enumerate().flat_map(each).collect());
+}
+
+/// A call that takes a state and is in the paper's list.
+fn call_on_state(random: &mut Random, kind: usize) -> u8 {
+    let state = any_state(random);
+    let area_length = usize::from(state.disks) * usize::from(state.blocks) * 64;
+    let mut area = any_bytes(random, area_length);
+    let mut output = any_bytes(random, 64);
+    let call = any_call(random, kind);
+    let mut cabinet = Cabinet {
+        rules: Rules::PAPER,
+        state: state.into(),
+        area: area.clone(),
+    };
+    let mut expected_output = output.clone();
+    let expected = cabinet.take(&call, &mut expected_output);
+    let given = make(random, state, &mut area, &call, &mut output);
+    check(given, expected, cabinet.state.into());
+    assert!(area == cabinet.area && output == expected_output, "{state:?} {call:?}");
+    given.result
+}
+
+/// Any call of this kind.
+fn any_call(random: &mut Random, kind: usize) -> Call {
+    let (number, supply) = (any_number(random), any_supply(random));
+    match kind {
+        0 => Call::Read { block: number },
+        1 => Call::Write {
+            block: number,
+            data: any_bytes(random, 64),
+            supply,
+        },
+        2 => Call::Join { disk: number, supply },
+        3 => Call::Quiet { supply },
+        4 => Call::Restart { supply },
+        5 => Call::Lose { disk: number },
+        6 => Call::Return { disk: number },
+        _ => Call::Cut,
+    }
+}
+
+/// The same call in plain Rust.
+fn make(random: &mut Random, state: State, area: &mut [u8], call: &Call, output: &mut [u8]) -> Answer {
+    match *call {
+        Call::Read { block } => plain::read(state, area, wide(random, block), output),
+        Call::Write {
+            block,
+            ref data,
+            supply,
+        } => plain::write(state, area, wide(random, block), data, supply),
+        Call::Join { disk, supply } => plain::join(state, area, wide(random, disk), supply),
+        Call::Quiet { supply } => plain::quiet(state, supply),
+        Call::Restart { supply } => plain::restart(state, area, supply),
+        Call::Lose { disk } => plain::lose(state, wide(random, disk)),
+        Call::Return { disk } => plain::give_back(state, wide(random, disk)),
+        Call::Cut => plain::cut(state),
+    }
+}
+
+fn fresh(random: &mut Random) -> u8 {
+    let (n, b) = (any_number(random), any_number(random));
+    let mut area = any_bytes(random, usize::from(n) % 9 * (usize::from(b) % 65) * 64);
+    let mut expected_area = area.clone();
+    let (expected, expected_state) = cabinet::fresh(Rules::PAPER, n, b, &mut expected_area);
+    let given = plain::fresh(wide(random, n), wide(random, b), &mut area);
+    check(given, expected, expected_state.into());
+    assert!(area == expected_area, "{n} {b}");
+    given.result
+}
+
+fn save(random: &mut Random) -> u8 {
+    let state = any_state(random);
+    let mut slots = any_bytes(random, slots::SLOT * usize::from(state.disks));
+    let mut expected_slots = slots.clone();
+    let expected = slots::save(Rules::PAPER, &state.into(), &mut expected_slots);
+    let given = plain::save(state, &mut slots);
+    check(given, expected, state);
+    assert!(slots == expected_slots, "{state:?}");
+    given.result
+}
+
+/// Half the slots are saved ones, of which some have a byte changed.
+fn assemble(random: &mut Random) -> u8 {
+    let state = sound_state(random);
+    let (mut n, mut b) = (u16::from(state.disks), u16::from(state.blocks));
+    let mut slots = any_bytes(random, slots::SLOT * usize::from(n));
+    if random.percent(50) {
+        plain::save(state, &mut slots);
+    }
+    if random.percent(50) && !slots.is_empty() {
+        let place = random.below(slots.len());
+        slots[place] = random.byte() & random.byte();
+    }
+    if random.percent(20) {
+        (n, b) = (any_number(random), any_number(random));
+    }
+    let reach = if random.percent(80) { state.reach } else { random.byte() };
+    let (expected, expected_state) = slots::assemble(Rules::PAPER, n, b, DiskSet(reach), &slots);
+    let given = plain::assemble(wide(random, n), wide(random, b), reach, &slots);
+    check(given, expected, expected_state.into());
+    given.result
+}
+
+fn check(given: Answer, expected: cabinet::Answer, state: State) {
+    let stores = usize::from(given.stores);
+    assert_eq!(
+        (given.result, stores, given.state),
+        (expected.result, expected.stores, state)
+    );
+}
+
+/// The reference takes numbers of 16 bits. A larger one is above every bound, as 65,535 is.
+fn wide(random: &mut Random, number: u16) -> usize {
+    match number {
+        u16::MAX => random.pick(&[65_535, 65_536, 1 << 31, usize::MAX]),
+        _ => number.into(),
+    }
+}
+
+/// A number that mostly fits small cabinets.
+fn any_number(random: &mut Random) -> u16 {
+    let (small, middle, large) = (random.between(0, 8), random.between(0, 70), random.between(0, 300));
+    random.pick(&[small, small, small, small, middle, middle, large, u16::MAX])
+}
+
+/// From none to more than any list is long.
+fn any_supply(random: &mut Random) -> u16 {
+    any_number(random).saturating_mul(random.between(1, 20))
+}
+
+/// Random bytes, mostly of this length.
+fn any_bytes(random: &mut Random, length: usize) -> Vec<u8> {
+    let length = match random.below(40) {
+        0 => length + 1,
+        1 => length.saturating_sub(1),
+        2 => 0,
+        _ => length,
+    };
+    let (start, step) = (random.byte(), random.byte());
+    (0..length)
+        .map(|i| (i as u8).wrapping_mul(step) ^ (i >> 6) as u8 ^ start)
+        .collect()
+}
+
+/// A state that is sound, or sound but for one damaged byte, or arbitrary.
+fn any_state(random: &mut Random) -> State {
+    let mut state = sound_state(random);
+    let kind = random.below(8);
+    if kind == 0 {
+        return arbitrary_state(random);
+    }
+    if kind == 1 {
+        damage(random, &mut state);
+    }
+    state
+}
+
+fn arbitrary_state(random: &mut Random) -> State {
+    State {
+        disks: random.byte() % 10,
+        blocks: random.byte() % 70,
+        reach: random.byte(),
+        current: random.byte(),
+        labels: [(); 8].map(|()| any_label(random)),
+    }
+}
+
+fn any_label(random: &mut Random) -> Label {
+    Label {
+        committed: random.byte(),
+        tentative: random.byte(),
+        dirty: random.byte(),
+    }
+}
+
+/// Flips one bit of one byte.
+fn damage(random: &mut Random, state: &mut State) {
+    let (place, bit) = (random.below(28), 1 << random.below(8));
+    let State {
+        disks,
+        blocks,
+        reach,
+        current,
+        labels,
+    } = state;
+    let head = [disks, blocks, reach, current];
+    let fields = labels
+        .iter_mut()
+        .flat_map(|l| [&mut l.committed, &mut l.tentative, &mut l.dirty]);
+    if let Some(byte) = head.into_iter().chain(fields).nth(place) {
+        *byte ^= bit;
+    }
+}
+
+/// A sound state. Its labels draw on two sets, so that a restart finds none, one or several.
+fn sound_state(random: &mut Random) -> State {
+    let disks = random.between(1, 8) as u8;
+    let all = u8::MAX >> (8 - disks);
+    let blocks = random.pick(&[1, 2, 3, 8, 9, 17, 64]);
+    let regions = u8::MAX >> (8 - u8::div_ceil(blocks, 8));
+    let sets = [random.byte() & all, random.byte() & all, all, 0];
+    let mut state = State {
+        disks,
+        blocks,
+        reach: all & (random.byte() | random.byte()),
+        current: random.pick(&sets),
+        ..State::default()
+    };
+    for disk in 0..disks {
+        let own = |set: u8| if set >> disk & 1 == 1 { set } else { 0 };
+        let is_member = own(state.current) != 0;
+        state.labels[usize::from(disk)] = Label {
+            committed: if is_member {
+                state.current
+            } else {
+                own(random.pick(&sets))
+            },
+            tentative: if is_member { 0 } else { own(random.pick(&sets)) },
+            dirty: random.byte() & random.byte() & regions,
+        };
+    }
+    state
+}
