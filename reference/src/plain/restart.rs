@@ -46,13 +46,12 @@ fn copy_region(state: &State, area: &mut [u8], set: u8, region: usize, supply: &
     Ok(())
 }
 
-/// One block. It is loaded once, for no copy changes the lowest member's.
+/// One block of them.
 fn copy_block(state: &State, area: &mut [u8], set: u8, block: usize, supply: &mut Supply) -> Result<(), Ended> {
-    let mut bytes = [0; BLOCK];
-    bytes.copy_from_slice(&area[state.block_start(lowest(set), block)..][..BLOCK]);
+    let from = state.block_start(lowest(set), block);
     for disk in members(without_lowest(set)) {
         supply.take()?;
-        area[state.block_start(disk, block)..][..BLOCK].copy_from_slice(&bytes);
+        area.copy_within(from..from + BLOCK, state.block_start(disk, block));
     }
     Ok(())
 }
