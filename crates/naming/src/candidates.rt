@@ -49,7 +49,11 @@ pub(crate) fn candidate(
     requires { do ⌜ disks ≤ (← ⟦DISKS⟧) ⌝ }
     ensures { λ r. ⌜ r ≡ candidate (stageOf stage) disks online labels x ⌝ }
 {
-    (0 < x)
-        & (sets::subset(x, online)
-            & (all_back(stage, disks, labels, x) & some_propose(stage, disks, labels, x)))
+    if x == 0 {
+        return false;
+    }
+    if !sets::subset(x, online) {
+        return false;
+    }
+    all_back(stage, disks, labels, x) & some_propose(stage, disks, labels, x)
 }

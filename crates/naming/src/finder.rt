@@ -2,9 +2,9 @@
 ghost use mathlib.Core.Path.{_≡_};
 ghost use mathlib.Core.Bool.{cond};
 ghost use Prim.Native.Nat.{_^_, _≤_, _<_};
-ghost use Rattle.protocol.specs.Naming.{orLater, named};
+ghost use Rattle.protocol.specs.Naming.{candidate, orLater, named};
 ghost use Rattle.protocol.specs.Finder.{another, among};
-ghost use Rattle.naming.specs.Meaning.{foundOf, stageOf};
+ghost use Rattle.naming.specs.Meaning.{foundOf, stageOf, isOne};
 use crate::Naming;
 use crate::Stage;
 use crate::candidates::candidate;
@@ -32,6 +32,35 @@ fn another(found: Naming, x: Mask, fits: bool) -> Naming
     }
 }
 
+fn is_one(found: Naming, x: Mask) -> bool
+    ensures { λ r. ⌜ r ≡ isOne (foundOf found) x ⌝ }
+{
+    match found {
+        Naming::Nothing => false,
+        Naming::One(y) => y == x,
+        Naming::Several => false,
+    }
+}
+
+// The same for a set that is not known to be one. Where it is the one that was found it need not be tried again: mostly the
+// labels of all disks have the same.
+fn and_tried(
+    found: Naming,
+    stage: Stage,
+    disks: usize,
+    online: Mask,
+    labels: [Label; DISKS],
+    x: Mask,
+) -> Naming
+    requires { do ⌜ disks ≤ (← ⟦DISKS⟧) ⌝ }
+    ensures { λ r. ⌜ foundOf r ≡ cond (candidate (stageOf stage) disks online labels x) (another (foundOf found) x) (foundOf found) ⌝ }
+{
+    if is_one(found, x) {
+        return found;
+    }
+    another(found, x, candidate(stage, disks, online, labels, x))
+}
+
 // The candidates of a stage, tried disk by disk.
 fn among(stage: Stage, disks: usize, online: Mask, labels: [Label; DISKS]) -> Naming
     requires { do ⌜ disks ≤ (← ⟦DISKS⟧) ⌝ }
@@ -40,8 +69,7 @@ fn among(stage: Stage, disks: usize, online: Mask, labels: [Label; DISKS]) -> Na
     let mut found = Naming::Nothing;
     let mut d = 0;
     while d < disks {
-        let x = tried(stage, labels[d]);
-        found = another(found, x, candidate(stage, disks, online, labels, x));
+        found = and_tried(found, stage, disks, online, labels, tried(stage, labels[d]));
         d += 1;
     }
     found

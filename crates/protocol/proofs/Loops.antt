@@ -10,9 +10,11 @@ use lib.ListN.{length, take, length-append}
 use borrow.Author.Tests.{ltb-true, ltb-false, lt-ltb, le-ltb}
 use Rattle.sets.specs.Sets.{has, below, size, members}
 use Rattle.sets.proofs.Tests.{Test, passes, fails, test, clash, and-parts, or-either, implied, implies, same-or-not, same-test}
-use Rattle.sets.proofs.Bounds.{below-pow}
+use Rattle.sets.proofs.Membership.{has-empty}
+use Rattle.sets.proofs.Operations.{has-union}
+use Rattle.sets.proofs.Bounds.{below-pow, below-members, below-empty, below-union}
 use Rattle.sets.proofs.Cardinality.{size-members}
-use Rattle.protocol.specs.Loops.{ascending, forEach, allBelow, someBelow, every, some}
+use Rattle.protocol.specs.Loops.{ascending, forEach, allBelow, someBelow, every, some, unionBelow}
 
 -- what holds below n and at n holds below n + 1
 pub or-last : (P : ℕ → Type 0) (n d : ℕ) → d < suc n → (d < n → P d) → P n → P d
@@ -39,7 +41,7 @@ unfolding allBelow
 all-of zero p h = refl
 all-of (suc n) p h = rw (all-of n p (λ d l. h d (omega arith)), h n (omega arith))
 
-some-at : (n : ℕ) (p : ℕ → Bool) → someBelow n p ≡ true → (d : ℕ) × (d < n) × (p d ≡ true)
+pub some-at : (n : ℕ) (p : ℕ → Bool) → someBelow n p ≡ true → (d : ℕ) × (d < n) × (p d ≡ true)
 unfolding someBelow
 some-at zero p h = clash h refl
 some-at (suc n) p h = go (some-at n p) (or-either (someBelow n p) (p n) h)
@@ -48,7 +50,7 @@ some-at (suc n) p h = go (some-at n p) (or-either (someBelow n p) (p n) h)
     go ih (inl e) = let (d, l, q) = ih e in (d, omega arith, q)
     go ih (inr e) = (n, omega arith, e)
 
-some-of : (n : ℕ) (p : ℕ → Bool) (d : ℕ) → d < n → p d ≡ true → someBelow n p ≡ true
+pub some-of : (n : ℕ) (p : ℕ → Bool) (d : ℕ) → d < n → p d ≡ true → someBelow n p ≡ true
 unfolding someBelow
 some-of zero p d l e = absurd (omega arith)
 some-of (suc n) p d l e = go (some-of n p d) (same-or-not d n)
@@ -56,6 +58,11 @@ some-of (suc n) p d l e = go (some-of n p d) (same-or-not d n)
     go : (d < n → p d ≡ true → someBelow n p ≡ true) → (d ≡ n) ⊎ (d ≢ n) → (someBelow n p || p n) ≡ true
     go ih (inl q) = rw (rw q at e) (or-true (someBelow n p))
     go ih (inr q) = rw (ih (omega arith) e)
+
+pub some-same : (n : ℕ) (p q : ℕ → Bool) → ((d : ℕ) → p d ≡ q d) → someBelow n p ≡ someBelow n q
+unfolding someBelow
+some-same zero p q same = refl
+some-same (suc n) p q same = rw (some-same n p q same, same n)
 
 module _ (n s : ℕ) (p : ℕ → Bool) where
   pub every-at : every n s p ≡ true → (d : ℕ) → d < n → has s d ≡ true → p d ≡ true
@@ -81,6 +88,34 @@ module _ (n s : ℕ) (p : ℕ → Bool) where
       go : Test (p d) → p d ≡ false
       go (passes e) = clash (some-is d l m e) h
       go (fails e) = e
+
+-- disks from n on change nothing where the set names none of them
+pub some-known : (m n s : ℕ) (p : ℕ → Bool) → n ≤ m → below s n ≡ true → some m s p ≡ some n s p
+some-known m n s p few known =
+    same-test (some m s p) (some n s p)
+    (λ e. let (d, _, member, q) = some-member m s p e in some-is n s p d (below-members s n .0 known d member) member q)
+    (λ e. let (d, l, member, q) = some-member n s p e in some-is m s p d (omega arith) member q)
+
+-- ---- unions
+
+pub has-union-below : (f : ℕ → ℕ) (x n : ℕ) → has (unionBelow n f) x ≡ someBelow n (λ d. has (f d) x)
+unfolding unionBelow someBelow
+has-union-below f x zero = has-empty x
+has-union-below f x (suc n) = has-union (unionBelow n f) (f n) x ∙ rw (has-union-below f x n)
+
+-- a union names only disks below n where each of its sets does
+module _ (f : ℕ → ℕ) (n : ℕ) where
+  pub union-at : (k : ℕ) → below (unionBelow k f) n ≡ true → (d : ℕ) → d < k → below (f d) n ≡ true
+  unfolding unionBelow
+  union-at zero h d l = absurd (omega arith)
+  union-at (suc k) h d l =
+      let (first, last) = below-union (unionBelow k f) (f k) n .0 h in
+      or-last (λ e. below (f e) n ≡ true) k d l (union-at k first d) last
+
+  pub union-of : (k : ℕ) → ((d : ℕ) → d < k → below (f d) n ≡ true) → below (unionBelow k f) n ≡ true
+  unfolding unionBelow
+  union-of zero h = below-empty n
+  union-of (suc k) h = below-union (unionBelow k f) (f k) n .1 (union-of k (λ d l. h d (omega arith)), h k (omega arith))
 
 -- ---- what holds of each element
 
@@ -165,6 +200,12 @@ for-length n s f known = as-members n ∙ sym (size-members n s (below-pow s n .
         length-append (forEach i s (λ d. f d ∷ [])) (cond (has s i) (f i ∷ []) [])
         ∙ ap₂ _+_ (as-members i) (one-more i (has s i))
         ∙ sym (length-append (members i s) (cond (has s i) (i ∷ []) []))
+
+-- nothing, for each disk of no set
+pub for-none : {A : Type 0} (n : ℕ) (f : ℕ → List A) → forEach n 0 f ≡ []
+unfolding forEach ascending
+for-none zero f = refl
+for-none (suc n) f = rw (for-none n f, has-empty n)
 
 -- ---- loops that give the same
 

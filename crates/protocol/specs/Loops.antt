@@ -2,7 +2,7 @@
 use mathlib.Core.Bool.{Bool, true, false, not, cond, _&&_, _||_}
 use mathlib.Core.List.{List, [], _++_}
 use Prim.Native.Nat.{ℕ, zero, suc}
-use Rattle.sets.specs.Sets.{has}
+use Rattle.sets.specs.Sets.{has, union}
 
 -- what f gives for 0, then for 1, and so on to n - 1
 unfoldable pub ascending : {A : Type 0} → ℕ → (ℕ → List A) → List A
@@ -28,3 +28,8 @@ every n s p = allBelow n (λ d. not (has s d) || p d)
 -- p of some member of s below n
 unfoldable pub some : ℕ → ℕ → (ℕ → Bool) → Bool
 some n s p = someBelow n (λ d. has s d && p d)
+
+-- the sets that f gives for 0 to n - 1, as one
+unfoldable pub unionBelow : ℕ → (ℕ → ℕ) → ℕ
+unionBelow zero f = 0
+unionBelow (suc i) f = union (unionBelow i f) (f i)

@@ -10,16 +10,20 @@ use borrow.Author.Tests.{eq-eqb}
 use Rattle.sets.specs.Sets.{has, below, size, difference, singleton}
 use Rattle.sets.proofs.Bounds.{below-difference}
 use Rattle.sets.proofs.Operations.{has-difference, has-singleton}
-use Rattle.protocol.specs.Geometry.{mostDisks, regionSize}
+use Rattle.label.specs.declared.Label.{Label}
+use Rattle.protocol.specs.Geometry.{mostDisks, regionSize, regions}
 use Rattle.protocol.specs.Loops.{ascending, forEach}
 use Rattle.protocol.specs.States.{source}
 use Rattle.protocol.specs.Stores.{Store, copy, clear}
-use Rattle.protocol.specs.Lists.{copies, clears, mend}
-use Rattle.protocol.proofs.Loops.{for-length}
+use Rattle.protocol.specs.Lists.{copies, clears, mend, mends}
+use Rattle.protocol.proofs.Loops.{for-length, same-turns}
 use Rattle.protocol.proofs.Turns.{even-length}
 use Rattle.stores.specs.Runs.{Progress, steps}
 use Rattle.stores.proofs.Runs.{in-sequence}
+use Rattle.tally.specs.DirtyBits.{dirtyRegions}
+use Rattle.tally.proofs.DirtyBits.{dirty-on-any}
 use Rattle.recovery.specs.Regions.{regionBlocks, others}
+use Rattle.recovery.specs.Turns.{mendsOf}
 use Rattle.recovery.proofs.RegionBlocks.{region-loop}
 
 -- the source of a set is not one of the others
@@ -28,6 +32,11 @@ unfolding others
 source-apart set =
     has-difference set (singleton (source set)) (source set)
     ∙ rw (has-singleton (source set) (source set), eq-eqb (source set) (source set) refl) (and-false (has set (source set)))
+
+-- the regions that are "dirty on any disk of S", as a set
+pub mends-by-regions : (n b set : ℕ) (labels : List Label) → n ≤ mostDisks → below set n ≡ true → mends n b labels set ≡ mendsOf n b (dirtyRegions labels set) set
+unfolding mends mendsOf
+mends-by-regions n b set labels few known = same-turns (regions b) _ _ (λ r l. rw (dirty-on-any labels r n few set known))
 
 -- the copies of a region are no more than a region's blocks times the disks
 pub mend-most : (blocks count : ℕ) → blocks ≤ regionSize → count ≤ mostDisks → blocks * count ≤ regionSize * mostDisks

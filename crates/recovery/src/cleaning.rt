@@ -1,8 +1,11 @@
 // Clean, the paper's quiet.
 ghost use mathlib.Core.Path.{_≡_};
 ghost use mathlib.Core.List.{List};
+ghost use mathlib.Core.Bool.{true};
 ghost use Prim.Native.Nat.{ℕ, _≤_};
 ghost use lib.ListN.{length};
+ghost use Rattle.sets.specs.Sets.{below, intersection};
+ghost use Rattle.protocol.specs.Geometry.{mostDisks};
 ghost use Rattle.protocol.specs.Loops.{ascending};
 ghost use Rattle.protocol.specs.States.{currentOf};
 ghost use Rattle.protocol.specs.Soundness.{Sound};
@@ -10,6 +13,7 @@ ghost use Rattle.protocol.specs.Lists.{cleanList};
 ghost use Rattle.protocol.specs.Outcomes.{carryOut};
 ghost use Rattle.protocol.specs.Calls.{cleanOutcome};
 ghost use Rattle.stores.specs.Runs.{progress, steps};
+ghost use Rattle.tally.specs.DirtyBits.{dirtyDisks, dirtyRegions};
 ghost use Rattle.recovery.specs.Turns.{clearsOf};
 use crate::refusals::clean_refusal;
 use label::Label;
@@ -22,34 +26,55 @@ use stores::Change;
 use stores::Run;
 use tally::count;
 use tally::dirty_disks;
+use tally::dirty_regions;
 use tally::ended;
 use tally::size_of;
 use tally::started;
 
+// The disks of the set on which region r is dirty, where `dirty` are the regions that are dirty on any of them: of others no
+// label need be looked at.
+fn standing_on(labels: [Label; DISKS], n: usize, set: Mask, dirty: Mask, r: usize) -> Mask
+    requires { ⌜ (n ≤ mostDisks) × (below set n ≡ true) × (dirty ≡ dirtyRegions labels set) ⌝ }
+    ensures { λ disks. ⌜ disks ≡ intersection set (dirtyDisks n labels r) ⌝ }
+{
+    if sets::has(dirty, r) {
+        sets::intersection(set, dirty_disks(labels, n, r))
+    } else {
+        0
+    }
+}
+
 // The bits that stand on the disks of the set, in the regions below `regions`.
-fn standing(labels: [Label; DISKS], n: usize, regions: usize, set: Mask) -> usize
-    requires { do ⌜ (n ≤ (← ⟦DISKS⟧)) × (regions ≤ (← ⟦DISKS⟧)) ⌝ }
+fn standing(labels: [Label; DISKS], n: usize, regions: usize, set: Mask, dirty: Mask) -> usize
+    requires { ⌜ (n ≤ mostDisks) × (regions ≤ mostDisks) × (below set n ≡ true) × (dirty ≡ dirtyRegions labels set) ⌝ }
     ensures { λ k. ⌜ k ≡ length (ascending regions (clearsOf n labels set)) ⌝ }
 {
     let mut bits = 0;
     let mut r = 0;
     while r < regions {
-        bits += count(sets::intersection(set, dirty_disks(labels, n, r)));
+        bits += count(standing_on(labels, n, set, dirty, r));
         r += 1;
     }
     bits
 }
 
 // "for each region ascending, clear the bit on each disk of L, ascending, where it stands": as the labels at the call say.
-fn clear_standing(run: Run, labels: [Label; DISKS], n: usize, regions: usize, set: Mask) -> Run
-    requires { do ⌜ (n ≤ (← ⟦DISKS⟧)) × (regions ≤ (← ⟦DISKS⟧)) ⌝ }
+fn clear_standing(
+    run: Run,
+    labels: [Label; DISKS],
+    n: usize,
+    regions: usize,
+    set: Mask,
+    dirty: Mask,
+) -> Run
+    requires { ⌜ (n ≤ mostDisks) × (regions ≤ mostDisks) × (below set n ≡ true) × (dirty ≡ dirtyRegions labels set) ⌝ }
     ensures { λ q. ⌜ ((b : ℕ) (area : List ℕ) → progress q area ≡ steps b (ascending regions (clearsOf n labels set)) (progress run area)) ⌝ }
 {
     let mut run = run;
     let mut r = 0;
     while r < regions {
-        let dirty = sets::intersection(set, dirty_disks(labels, n, r));
-        run = stores::store_labels(run, n, dirty, Change::Clear(r));
+        let disks = standing_on(labels, n, set, dirty, r);
+        run = stores::store_labels(run, n, disks, Change::Clear(r));
         r += 1;
     }
     run
@@ -65,8 +90,9 @@ fn clean_stores(s: State, budget: u16) -> Answer
     let n = size.disks;
     let live = state::live(s);
     let regions = state::regions(size.blocks);
-    let stores = standing(labels, n, regions, live);
-    let run = clear_standing(started(s, budget), labels, n, regions, live);
+    let dirty = dirty_regions(labels, live);
+    let stores = standing(labels, n, regions, live, dirty);
+    let run = clear_standing(started(s, budget), labels, n, regions, live, dirty);
     ended(s, run, stores, state::current(power), budget)
 }
 

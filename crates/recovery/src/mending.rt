@@ -1,70 +1,56 @@
-// The dirty regions of a restart: "For each region, ascending, that is dirty on any disk of S".
+// The dirty regions of a restart: "For each region, ascending, that is dirty on any disk of S", which are given as a set.
 ghost use mathlib.Core.Path.{_≡_};
 ghost use mathlib.Core.Bool.{true};
 ghost use Prim.Native.Nat.{_+_, _*_, _≤_, _<_};
 ghost use lib.ListN.{length};
 ghost use Rattle.sets.specs.Sets.{below};
 ghost use Rattle.protocol.specs.Geometry.{mostDisks, mostBlocks, regionSize, regions};
-ghost use Rattle.protocol.specs.Loops.{some};
-ghost use Rattle.protocol.specs.States.{isDirty};
-ghost use Rattle.protocol.specs.Lists.{mends};
 ghost use Rattle.stores.specs.Runs.{progress, steps};
 ghost use Rattle.stores.specs.Sizes.{Fits};
-ghost use Rattle.recovery.specs.Turns.{mendOf};
+ghost use Rattle.recovery.specs.Turns.{mendOf, mendsOf};
 use crate::regions::others;
 use crate::regions::region_blocks;
-use label::Label;
 use protocol::geometry::REGION_SIZE;
-use sets::DISKS;
 use sets::Mask;
 use stores::Change;
 use stores::Run;
 use stores::Size;
 use tally::count;
-use tally::dirty_disks;
-
-// Whether the region is "dirty on any disk of S".
-fn is_dirty(labels: [Label; DISKS], n: usize, set: Mask, r: usize) -> bool
-    requires { do ⌜ n ≤ (← ⟦DISKS⟧) ⌝ }
-    ensures { λ t. ⌜ t ≡ some n set (λ d. isDirty labels d r) ⌝ }
-{
-    sets::intersection(set, dirty_disks(labels, n, r)) != 0
-}
 
 // How many stores region r takes.
-fn mend_length(labels: [Label; DISKS], size: Size, set: Mask, r: usize) -> usize
-    requires { ⌜ (size .disks ≤ mostDisks) × (below set (size .disks) ≡ true) × (r * regionSize ≤ size .blocks) ⌝ }
-    ensures { λ k. ⌜ (k ≡ length (mendOf (size .disks) (size .blocks) labels set r)) × (k ≤ (regionSize + 1) * mostDisks) ⌝ }
+fn mend_length(dirty: Mask, size: Size, set: Mask, r: usize) -> usize
+    requires { ⌜ (below set (size .disks) ≡ true) × (r * regionSize ≤ size .blocks) ⌝ }
+    ensures { λ k. ⌜ (k ≡ length (mendOf (size .disks) (size .blocks) dirty set r)) × (k ≤ (regionSize + 1) * mostDisks) ⌝ }
 {
-    if is_dirty(labels, size.disks, set, r) {
+    if sets::has(dirty, r) {
         region_blocks(size.blocks, r) * count(others(set)) + count(set)
     } else {
         0
     }
 }
 
-pub(crate) fn mends_length(labels: [Label; DISKS], size: Size, set: Mask) -> usize
-    requires { ⌜ (size .disks ≤ mostDisks) × (size .blocks ≤ mostBlocks) × (below set (size .disks) ≡ true) ⌝ }
-    ensures { λ k. ⌜ (k ≡ length (mends (size .disks) (size .blocks) labels set)) × (k ≤ mostDisks * ((regionSize + 1) * mostDisks)) ⌝ }
+pub(crate) fn mends_length(dirty: Mask, size: Size, set: Mask) -> usize
+    requires { ⌜ (size .blocks ≤ mostBlocks) × (below set (size .disks) ≡ true) ⌝ }
+    ensures { λ k. ⌜ (k ≡ length (mendsOf (size .disks) (size .blocks) dirty set)) × (k ≤ mostDisks * ((regionSize + 1) * mostDisks)) ⌝ }
 {
     let regions = state::regions(size.blocks);
     let mut stores = 0;
     let mut r = 0;
     while r < regions {
-        stores += mend_length(labels, size, set, r);
+        stores += mend_length(dirty, size, set, r);
         r += 1;
     }
     stores
 }
 
 // "for each block ascending, copy it from the lowest member to each other member, ascending; then clear the bit on every
-// member, ascending, standing or not", if the region was dirty on any of them at the call.
-fn mend(run: Run, area: &mut [u8], labels: [Label; DISKS], size: Size, set: Mask, r: usize) -> Run
+// member, ascending, standing or not", if the region is a dirty one.
+fn mend(run: Run, area: &mut [u8], dirty: Mask, size: Size, set: Mask, r: usize) -> Run
     requires { ⌜ Fits (size .disks) (size .blocks) (now area) × (0 < set) × (below set (size .disks) ≡ true) × (r < regions (size .blocks)) ⌝ }
-    ensures { λ q. ⌜ progress q (now (area .exit)) ≡ steps (size .blocks) (mendOf (size .disks) (size .blocks) labels set r) (progress run (now (area .entry))) ⌝ }
+    ensures { λ q. ⌜ progress q (now (area .exit)) ≡ steps (size .blocks) (mendOf (size .disks) (size .blocks) dirty set r) (progress run (now (area .entry))) ⌝ }
 {
     let n = size.disks;
-    if !is_dirty(labels, n, set, r) {
+    if !sets::has(dirty, r) {
         return run;
     }
     let first = r * REGION_SIZE;
@@ -82,21 +68,15 @@ fn mend(run: Run, area: &mut [u8], labels: [Label; DISKS], size: Size, set: Mask
 }
 
 // "For each region, ascending"
-pub(crate) fn mend_all(
-    run: Run,
-    area: &mut [u8],
-    labels: [Label; DISKS],
-    size: Size,
-    set: Mask,
-) -> Run
+pub(crate) fn mend_all(run: Run, area: &mut [u8], dirty: Mask, size: Size, set: Mask) -> Run
     requires { ⌜ Fits (size .disks) (size .blocks) (now area) × (0 < set) × (below set (size .disks) ≡ true) ⌝ }
-    ensures { λ q. ⌜ progress q (now (area .exit)) ≡ steps (size .blocks) (mends (size .disks) (size .blocks) labels set) (progress run (now (area .entry))) ⌝ }
+    ensures { λ q. ⌜ progress q (now (area .exit)) ≡ steps (size .blocks) (mendsOf (size .disks) (size .blocks) dirty set) (progress run (now (area .entry))) ⌝ }
 {
     let regions = state::regions(size.blocks);
     let mut run = run;
     let mut r = 0;
     while r < regions {
-        run = mend(run, area, labels, size, set, r);
+        run = mend(run, area, dirty, size, set, r);
         r += 1;
     }
     run

@@ -57,11 +57,11 @@ pub(crate) fn clean_refusal(s: State) -> u8
 }
 
 // "Restart: 7, running. 13. 14.", of what a sound state names.
-pub(crate) fn restart_refusal(s: State, area: usize, found: Naming) -> u8
+pub(crate) fn restart_refusal(is_sound: bool, s: State, area: usize, found: Naming) -> u8
+    requires { ⌜ «is_sound» ≡ sound s ⌝ }
     ensures { λ r. ⌜ ((held : List ℕ) → length held ≡ area → (sound s ≡ true → foundOf found ≡ foundBy s) → r ≡ firstOf (restartRefusals s held)) ⌝ }
 {
     let power = s.power;
-    let is_sound = sound(s);
     let fits = area::fits(s.disks as usize, s.blocks as usize, area);
     let running = is_running(power);
     let nothing = is_nothing(found);

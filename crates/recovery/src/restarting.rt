@@ -21,6 +21,7 @@ use soundness::sound;
 use state::without_stores;
 use stores::Change;
 use tally::count;
+use tally::dirty_regions;
 use tally::ended;
 use tally::size_of;
 use tally::started;
@@ -32,17 +33,19 @@ fn restart_stores(s: State, area: &mut [u8], set: Mask, budget: u16) -> Answer
 {
     let labels = s.labels;
     let size = size_of(s);
-    let stores = mends_length(labels, size, set) + count(set);
-    let run = mend_all(started(s, budget), area, labels, size, set);
+    let dirty = dirty_regions(labels, set);
+    let stores = mends_length(dirty, size, set) + count(set);
+    let run = mend_all(started(s, budget), area, dirty, size, set);
     let run = stores::store_labels(run, size.disks, set, Change::Commit(set));
     ended(s, run, stores, set, budget)
 }
 
 // What the labels of a sound state name; of another state, which is refused, nothing is asked.
-fn found_by(s: State) -> Naming
+fn found_by(is_sound: bool, s: State) -> Naming
+    requires { ⌜ «is_sound» ≡ sound s ⌝ }
     ensures { λ r. ⌜ (sound s ≡ true → foundOf r ≡ foundBy s) ⌝ }
 {
-    if sound(s) {
+    if is_sound {
         let labels = s.labels;
         naming::named(s.disks as usize, s.online, labels)
     } else {
@@ -64,8 +67,9 @@ fn the_set(found: Naming) -> Mask
 pub fn restart(s: State, area: &mut [u8], budget: u16) -> Answer
     ensures { λ r. ⌜ ((output : List ℕ) → record { answer = r; area = now (area .exit); output = output } ≡ restartOutcome s (now (area .entry)) output budget) ⌝ }
 {
-    let found = found_by(s);
-    let refusal = restart_refusal(s, area.len(), found);
+    let is_sound = sound(s);
+    let found = found_by(is_sound, s);
+    let refusal = restart_refusal(is_sound, s, area.len(), found);
     if refusal == 0 {
         restart_stores(s, area, the_set(found), budget)
     } else {

@@ -3,7 +3,7 @@ use mathlib.Core.Path.{_≡_, refl}
 use mathlib.Core.Logic.{_⊎_, inl, inr, _↔_}
 use mathlib.Core.Bool.{true}
 use mathlib.Core.List.{List}
-use Prim.Native.Nat.{ℕ, zero, suc, _≤_, _<_}
+use Prim.Native.Nat.{ℕ, zero, _≤_, _<_}
 use native.Mathlib.Decide.{decLt}
 use native.Mathlib.Omega.{arith}
 use lib.Dec.{eqb}
@@ -20,24 +20,9 @@ use Rattle.protocol.specs.Geometry.{mostDisks, regions}
 use Rattle.protocol.specs.Loops.{allBelow}
 use Rattle.protocol.specs.States.{blank, labelAt, currentOf}
 use Rattle.protocol.specs.Soundness.{Sound, InRange, FitSet, FitLabel, FitPower, inRange, sound}
-use Rattle.protocol.proofs.Loops.{or-last, all-at, all-of}
+use Rattle.protocol.proofs.Loops.{all-at, all-of, union-at, union-of}
 use Rattle.protocol.proofs.Soundness.{in-range, own-disk, is-blank, test-agrees}
-use Rattle.soundness.specs.Clauses.{unionBelow, namedBelow, dirtyBelow, ownDisk, fitAlone, filled, soundByClauses}
-
--- ---- a union stays below n where each of its sets does
-
-module _ (f : ℕ → ℕ) (n : ℕ) where
-  union-at : (k : ℕ) → below (unionBelow k f) n ≡ true → (d : ℕ) → d < k → below (f d) n ≡ true
-  unfolding unionBelow
-  union-at zero h d l = absurd (omega arith)
-  union-at (suc k) h d l =
-      let (first, last) = below-union (unionBelow k f) (f k) n .0 h in
-      or-last (λ e. below (f e) n ≡ true) k d l (union-at k first d) last
-
-  union-of : (k : ℕ) → ((d : ℕ) → d < k → below (f d) n ≡ true) → below (unionBelow k f) n ≡ true
-  unfolding unionBelow
-  union-of zero h = below-empty n
-  union-of (suc k) h = below-union (unionBelow k f) (f k) n .1 (union-of k (λ d l. h d (omega arith)), h k (omega arith))
+use Rattle.soundness.specs.Clauses.{namedBelow, dirtyBelow, ownDisk, fitAlone, filled, soundByClauses}
 
 -- ---- one label
 

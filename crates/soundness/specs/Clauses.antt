@@ -1,7 +1,7 @@
 -- Soundness as the code tests it: the clauses of document 01's sentence one by one, each over all labels.
 use mathlib.Core.Bool.{Bool, true, cond, _&&_, _||_}
 use mathlib.Core.List.{List}
-use Prim.Native.Nat.{ℕ, zero, suc}
+use Prim.Native.Nat.{ℕ}
 use lib.Dec.{eqb, ltb}
 use Rattle.sets.specs.Sets.{has, union, below}
 use Rattle.label.specs.declared.Label.{Label}
@@ -9,14 +9,9 @@ use Rattle.protocol.specs.declared.Power.{Power}
 use Rattle.protocol.specs.declared.Power.the-variants.{Stopped, Running}
 use Rattle.protocol.specs.declared.State.{State}
 use Rattle.protocol.specs.Geometry.{mostDisks, regions}
-use Rattle.protocol.specs.Loops.{allBelow}
+use Rattle.protocol.specs.Loops.{allBelow, unionBelow}
 use Rattle.protocol.specs.States.{labelAt, currentOf}
 use Rattle.protocol.specs.Soundness.{inRange, isBlank}
-
--- what f gives for 0 to n - 1, as one set
-unfoldable pub unionBelow : ℕ → (ℕ → ℕ) → ℕ
-unionBelow zero f = 0
-unionBelow (suc i) f = union (unionBelow i f) (f i)
 
 -- "every C and every T"
 abbrev pub namedBelow : ℕ → List Label → ℕ

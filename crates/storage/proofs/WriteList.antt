@@ -1,13 +1,13 @@
 -- A write's list, as code makes it: the move, the bits on the disks that lack them, the blocks. Assumes nothing.
 use mathlib.Core.Path.{_≡_}
 use mathlib.Core.List.{List, [], _∷_, _++_}
-use Prim.Native.Nat.{ℕ, _+_}
+use Prim.Native.Nat.{ℕ, _+_, _≤_}
 use native.Mathlib.Omega.{arith}
 use lib.ListN.{length, length-append}
 use Rattle.sets.specs.Sets.{size, difference}
 use Rattle.sets.proofs.Bounds.{below-difference}
 use Rattle.protocol.specs.declared.State.{State}
-use Rattle.protocol.specs.Geometry.{regionOf}
+use Rattle.protocol.specs.Geometry.{mostDisks, regionOf}
 use Rattle.protocol.specs.Loops.{forEach}
 use Rattle.protocol.specs.States.{currentOf, live}
 use Rattle.protocol.specs.Soundness.{Sound}
@@ -17,22 +17,22 @@ use Rattle.protocol.proofs.Loops.{for-length}
 use Rattle.protocol.proofs.Soundness.{live-known}
 use Rattle.stores.specs.Runs.{Progress, steps}
 use Rattle.stores.proofs.Runs.{in-sequence}
-use Rattle.tally.specs.DirtyDisks.{dirtyDisks}
-use Rattle.tally.proofs.DirtyDisks.{where-lacks}
+use Rattle.tally.specs.DirtyBits.{dirtyDisks}
+use Rattle.tally.proofs.DirtyBits.{where-lacks}
 
 module _ (s : State) (k : ℕ) (bytes : List ℕ) where
   -- the disks of L where the bit does not stand
   abbrev pub unmarked : ℕ
   unmarked = difference (live s) (dirtyDisks (s .disks) (s .labels) (regionOf k))
 
-  pub write-ran : (p : Progress) {q r t : Progress} → q ≡ steps (s .blocks) (moveToLive (s .disks) (currentOf (s .power)) (live s)) p
+  pub write-ran : s .disks ≤ mostDisks → (p : Progress) {q r t : Progress} → q ≡ steps (s .blocks) (moveToLive (s .disks) (currentOf (s .power)) (live s)) p
       → r ≡ steps (s .blocks) (forEach (s .disks) unmarked (λ d. mark d (regionOf k) ∷ [])) q
       → t ≡ steps (s .blocks) (forEach (s .disks) (live s) (λ d. write d k bytes ∷ [])) r
       → t ≡ steps (s .blocks) (writeList s k bytes) p
   unfolding writeList preparations marks blockStores
-  write-ran p first second third =
+  write-ran few p first second third =
       let b = s .blocks in
-      rw (where-lacks (s .labels) (regionOf k) (s .disks) (live s) (λ d. mark d (regionOf k)))
+      rw (where-lacks (s .labels) (regionOf k) (s .disks) few (live s) (λ d. mark d (regionOf k)))
       (in-sequence b _ _ p (in-sequence b (moveToLive (s .disks) (currentOf (s .power)) (live s)) _ p first second) third)
 
   pub write-length : Sound s
@@ -42,7 +42,7 @@ module _ (s : State) (k : ℕ) (bytes : List ℕ) where
       let n = s .disks in
       let l = live s in
       let lacking = forEach n unmarked (λ d. mark d (regionOf k) ∷ []) in
-      rw (where-lacks (s .labels) (regionOf k) n l (λ d. mark d (regionOf k)))
+      rw (where-lacks (s .labels) (regionOf k) n (fit .range .disks) l (λ d. mark d (regionOf k)))
       (omega (
         arith,
         length-append (moveToLive n (currentOf (s .power)) l ++ lacking) (forEach n l (λ d. write d k bytes ∷ [])),

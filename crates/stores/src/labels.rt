@@ -39,20 +39,28 @@ fn changed(l: Label, change: Change) -> Label
     }
 }
 
-// The store on each disk of the set below n, ascending, while the power allows.
+// The store on each disk of the set below n, ascending, while the power allows. Labels and budget are taken apart meanwhile:
+// a budget in a register costs nothing to count down.
 pub fn store_labels(run: Run, n: usize, set: Mask, change: Change) -> Run
     requires { do ⌜ (n ≤ (← ⟦DISKS⟧)) × FitChange change ⌝ }
     ensures { λ r. ⌜ ((b : ℕ) (area : List ℕ) → progress r area ≡ steps b (forEach n set (λ d. changeOn change d ∷ [])) (progress run area)) ⌝ }
 {
-    let mut run = run;
+    if set == 0 {
+        return run;
+    }
+    let mut labels = run.labels;
+    let mut left = run.left;
     let mut d = 0;
     while d < n {
-        if (run.left != 0) & sets::has(set, d) {
-            let l = changed(run.labels[d], change);
-            run.labels[d] = l;
-            run.left -= 1;
+        if (left != 0) & sets::has(set, d) {
+            let l = changed(labels[d], change);
+            labels[d] = l;
+            left -= 1;
         }
         d += 1;
     }
-    run
+    Run {
+        labels: labels,
+        left: left,
+    }
 }

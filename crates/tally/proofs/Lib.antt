@@ -1,5 +1,5 @@
 -- The laws of counting and of answers.
-pub mod DirtyDisks
+pub mod DirtyBits
 pub mod Lengths
 pub mod Carrying
 pub mod Fitting

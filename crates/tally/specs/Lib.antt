@@ -1,3 +1,3 @@
 pub mod Ready
-pub mod DirtyDisks
+pub mod DirtyBits
 pub mod Answers

@@ -1,24 +1,19 @@
-// On which disks a region is dirty, as a set: "where it stands" is then an intersection, "where it does not stand" a difference,
-// and their ones counts are list lengths.
+// Where dirty bits stand, as sets: of disks for a region, so that "where it stands" is an intersection, "where it does not stand" a
+// difference, and their ones counts are list lengths; of regions for some disks. The loops go over all eight labels, so that compiled
+// code knows the disk at each turn.
 ghost use mathlib.Core.Path.{_≡_};
 ghost use mathlib.Core.Bool.{cond};
-ghost use Prim.Native.Nat.{_≤_, _<_};
-ghost use Rattle.sets.specs.Sets.{union, singleton};
-ghost use Rattle.tally.specs.DirtyDisks.{dirtyDisks};
+ghost use Prim.Native.Nat.{_≤_};
+ghost use Rattle.tally.specs.DirtyBits.{dirtyDisks, dirtyRegions};
 use label::Label;
 use sets::DISKS;
 use sets::Mask;
 
-// The set with disk d, if it is to be a member.
-fn with_disk(set: Mask, d: usize, member: bool) -> Mask
-    requires { do ⌜ d < (← ⟦DISKS⟧) ⌝ }
-    ensures { λ r. ⌜ r ≡ cond member (union set (singleton d)) set ⌝ }
+// The set, if it is wanted.
+fn only_if(wanted: bool, set: Mask) -> Mask
+    ensures { λ r. ⌜ r ≡ cond wanted set 0 ⌝ }
 {
-    if member {
-        sets::union(set, sets::singleton(d))
-    } else {
-        set
-    }
+    if wanted { set } else { 0 }
 }
 
 // The disks below n on which region r is dirty.
@@ -28,10 +23,26 @@ pub fn dirty_disks(labels: [Label; DISKS], n: usize, r: usize) -> Mask
 {
     let mut set = 0;
     let mut d = 0;
-    while d < n {
+    while d < DISKS {
         let l = labels[d];
-        set = with_disk(set, d, sets::has(l.dirty, r));
+        let stands = (d < n) & sets::has(l.dirty, r);
+        set = sets::union(set, only_if(stands, sets::singleton(d)));
         d += 1;
     }
     set
+}
+
+// The regions that are dirty on any disk of the set.
+pub fn dirty_regions(labels: [Label; DISKS], set: Mask) -> Mask
+    ensures { λ r. ⌜ r ≡ dirtyRegions labels set ⌝ }
+{
+    let mut regions = 0;
+    let mut d = 0;
+    while d < DISKS {
+        let l = labels[d];
+        let member = sets::has(set, d);
+        regions = sets::union(regions, only_if(member, l.dirty));
+        d += 1;
+    }
+    regions
 }

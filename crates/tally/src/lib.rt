@@ -6,6 +6,7 @@ mod ending;
 
 pub use counts::count;
 pub use dirty::dirty_disks;
+pub use dirty::dirty_regions;
 pub use ending::ended;
 pub use ending::size_of;
 pub use ending::started;

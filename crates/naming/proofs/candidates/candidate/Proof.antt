@@ -1,11 +1,24 @@
 -- `naming::candidates::candidate` meets its contract. Assumes nothing.
+use mathlib.Core.Path.{sym, _∙_}
+use mathlib.Core.Bool.{and-false}
+use native.Mathlib.Omega.{arith}
+use lib.Dec.{ltb}
+use borrow.Author.Tests.{lt-ltb, not-true, not-false}
 use borrow.Author.Needs.{needs}
 use Rattle.protocol.specs.Naming.{candidate}
 use Rattle.naming.proofs.candidates.candidate.Statement.{statement}
 use Rattle.naming.proofs.candidates.candidate.Tie as tie
 
+returns : tie.Need-returns
+unfolding candidate
+returns c = rw (c .if1 .taken)
+
 subset-requires : tie.Need-subset-requires
 subset-requires c κs = search needs
+
+returns-2 : tie.Need-returns-2
+unfolding candidate
+returns-2 c = let outside = sym (c .before .subset .ensures) ∙ not-true _ (c .if2 .taken) in rw outside (sym (and-false (ltb 0 (c .before .before .before .args .x))))
 
 all-back-requires : tie.Need-all-back-requires
 all-back-requires c κs = search needs
@@ -13,10 +26,16 @@ all-back-requires c κs = search needs
 some-propose-requires : tie.Need-some-propose-requires
 some-propose-requires c κs = search needs
 
-returns : tie.Need-returns
+returns-3 : tie.Need-returns-3
 unfolding candidate
-returns c = rw (c .before .before .subset .ensures, c .before .all-back .ensures, c .some-propose .ensures)
+returns-3 c =
+    let asked = c .before .before .before in
+    let start = asked .before .before in
+    let filled = lt-ltb 0 (start .args .x) (omega (arith, asked .before .if1 .left)) in
+    let inside = sym (asked .subset .ensures) ∙ not-false _ (c .before .before .if2 .left) in
+    rw (filled, inside, c .before .all-back .ensures, c .some-propose .ensures)
 
 pub candidate-spec : {M : Type 1} → statement M
 candidate-spec =
-    tie.close (tie.spec subset-requires all-back-requires some-propose-requires returns)
+    tie.close
+    (tie.spec returns subset-requires returns-2 all-back-requires some-propose-requires returns-3)

@@ -28,11 +28,8 @@ array-copy-out-tried c = search needs
 tried-requires : tie.Need-tried-requires Inv-loop μ-loop
 tried-requires c κs = search needs
 
-candidate-requires : tie.Need-candidate-requires Inv-loop μ-loop
-candidate-requires c κs = search needs
-
-another-requires : tie.Need-another-requires Inv-loop μ-loop
-another-requires c κs = search needs
+and-tried-requires : tie.Need-and-tried-requires Inv-loop μ-loop
+and-tried-requires c κs = search needs
 
 add-d : tie.Need-add-d Inv-loop μ-loop
 add-d c = omega arith
@@ -42,16 +39,7 @@ loop-less c = omega arith
 
 loop-again : tie.Need-loop-again Inv-loop μ-loop
 unfolding among
-loop-again c = (
-  omega arith,
-  rw (
-    add-one,
-    c .another .ensures,
-    c .before .candidate .ensures,
-    c .before .before .tried .ensures,
-    c .before .before .before .before .before .loop .inv .1,
-  ),
-)
+loop-again c = (omega arith, rw (add-one, c .and-tried .ensures, c .before .tried .ensures, c .before .before .before .before .loop .inv .1))
 
 returns : tie.Need-returns Inv-loop μ-loop
 returns c = let e : c .before .loop .d ≡ c .before .before .args .disks = omega arith in rw e at (c .before .loop .inv .1)
@@ -66,8 +54,7 @@ among-spec =
     mul-tried
     array-copy-out-tried
     tried-requires
-    candidate-requires
-    another-requires
+    and-tried-requires
     add-d
     loop-less
     loop-again

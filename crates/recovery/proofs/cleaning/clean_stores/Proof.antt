@@ -3,6 +3,7 @@ use native.Mathlib.Omega.{arith}
 use borrow.Author.Needs.{needs}
 use Rattle.protocol.specs.Geometry.{regions}
 use Rattle.protocol.specs.Lists.{cleanList}
+use Rattle.protocol.proofs.Soundness.{live-known}
 use Rattle.tally.proofs.Carrying.{carried}
 use Rattle.recovery.proofs.cleaning.clean_stores.Statement.{statement}
 use Rattle.recovery.proofs.cleaning.clean_stores.Tie as tie
@@ -16,11 +17,17 @@ live-requires c κs = search needs
 regions-requires : tie.Need-regions-requires
 regions-requires c κs = search needs
 
+dirty-regions-requires : tie.Need-dirty-regions-requires
+dirty-regions-requires c κs = search needs
+
 standing-requires : tie.Need-standing-requires
 unfolding regions
 standing-requires c κs =
-    let fit = c .before .before .before .before .pre in
-    rw (c .regions .ensures, c .before .before .size-of .ensures) (fit .range .disks, omega (arith, fit .range .blocks))
+    let at-live = c .before .before in
+    let start = at-live .before .before .before in
+    let fit = start .pre in
+    rw (c .before .regions .ensures, at-live .before .size-of .ensures, at-live .live .ensures)
+    (fit .range .disks, omega (arith, fit .range .blocks), live-known (start .args .s) fit, rw (at-live .live .ensures) at (c .dirty-regions .ensures))
 
 started-requires : tie.Need-started-requires
 started-requires c κs = search needs
@@ -28,8 +35,12 @@ started-requires c κs = search needs
 clear-standing-requires : tie.Need-clear-standing-requires
 unfolding regions
 clear-standing-requires c κs =
-    let fit = c .before .before .before .before .before .before .pre in
-    rw (c .before .before .regions .ensures, c .before .before .before .before .size-of .ensures) (fit .range .disks, omega (arith, fit .range .blocks))
+    let at-dirty = c .before .before in
+    let at-live = at-dirty .before .before in
+    let start = at-live .before .before .before in
+    let fit = start .pre in
+    rw (at-dirty .before .regions .ensures, at-live .before .size-of .ensures, at-live .live .ensures)
+    (fit .range .disks, omega (arith, fit .range .blocks), live-known (start .args .s) fit, rw (at-live .live .ensures) at (at-dirty .dirty-regions .ensures))
 
 current-requires : tie.Need-current-requires
 current-requires c κs = search needs
@@ -44,7 +55,7 @@ returns c area output =
     let at-clears = at-current .before in
     let begun = at-clears .before in
     let at-length = begun .before in
-    let at-regions = at-length .before in
+    let at-regions = at-length .before .before in
     let at-live = at-regions .before in
     let sized = at-live .before in
     let start = sized .before .before in
@@ -63,6 +74,7 @@ clean-stores-spec =
     size-of-requires
     live-requires
     regions-requires
+    dirty-regions-requires
     standing-requires
     started-requires
     clear-standing-requires

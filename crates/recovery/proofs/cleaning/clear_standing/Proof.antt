@@ -7,27 +7,24 @@ use Rattle.protocol.specs.Stores.{clear}
 use Rattle.protocol.specs.Loops.{ascending}
 use Rattle.stores.specs.Runs.{progress, steps}
 use Rattle.stores.proofs.Runs.{one-turn}
-use Rattle.tally.proofs.DirtyDisks.{where-stands}
+use Rattle.tally.proofs.DirtyBits.{where-stands}
 use Rattle.recovery.specs.Turns.{clearsOf}
 use Rattle.recovery.proofs.cleaning.clear_standing.Statement.{statement}
 use Rattle.recovery.proofs.cleaning.clear_standing.Tie as tie
 
 abbrev Inv-loop : tie.InvT-loop
-Inv-loop labels n regions set run₀ r₀ run r =
+Inv-loop labels n regions set dirty run₀ r₀ run r =
     (r ≤ regions) × ((b : ℕ) (area : List ℕ) → progress run area ≡ steps b (ascending r (clearsOf n labels set)) (progress run₀ area))
 
 abbrev μ-loop : tie.MeasureT-loop
-μ-loop labels n regions set run₀ r₀ run r = regions - r
+μ-loop labels n regions set dirty run₀ r₀ run r = regions - r
 
 loop-holds : tie.Need-loop-holds Inv-loop μ-loop
 unfolding ascending steps
 loop-holds c = (omega arith, λ b area. refl)
 
-dirty-disks-requires : tie.Need-dirty-disks-requires Inv-loop μ-loop
-dirty-disks-requires c κs = omega arith
-
-intersection-requires : tie.Need-intersection-requires Inv-loop μ-loop
-intersection-requires c κs = tt
+standing-on-requires : tie.Need-standing-on-requires Inv-loop μ-loop
+standing-on-requires c κs = let pre = c .before .before .pre in (pre .0, pre .2, pre .3)
 
 store-labels-requires : tie.Need-store-labels-requires Inv-loop μ-loop
 store-labels-requires c κs = omega arith
@@ -40,13 +37,14 @@ loop-less c = omega arith
 
 loop-again : tie.Need-loop-again Inv-loop μ-loop
 loop-again c =
-    let a = c .before .before .before .before .before .args in
-    let l = c .before .before .before .before .loop in (
+    let start = c .before .before .before .before in
+    let a = start .args in
+    let l = c .before .before .before .loop in (
       omega arith,
       λ b area.
           one-turn b (clearsOf (a .n) (a .labels) (a .set)) (l .r) _ (l .inv .1 b area)
-          (rw (where-stands (a .labels) (l .r) (a .n) (a .set) (λ d. clear d (l .r)))
-          (rw (c .before .intersection .ensures, c .before .before .dirty-disks .ensures) at (c .store-labels .ensures b area))),
+          (rw (where-stands (a .labels) (l .r) (a .n) (start .pre .0) (a .set) (λ d. clear d (l .r)))
+          (rw (c .before .standing-on .ensures) at (c .store-labels .ensures b area))),
     )
 
 returns : tie.Need-returns Inv-loop μ-loop
@@ -59,8 +57,7 @@ clear-standing-spec =
     Inv-loop
     μ-loop
     loop-holds
-    dirty-disks-requires
-    intersection-requires
+    standing-on-requires
     store-labels-requires
     add-r
     loop-less

@@ -6,28 +6,25 @@ use lib.ListN.{length}
 use Rattle.protocol.specs.Geometry.{mostDisks}
 use Rattle.protocol.specs.Stores.{clear}
 use Rattle.protocol.specs.Loops.{ascending}
-use Rattle.tally.proofs.DirtyDisks.{standing-size}
+use Rattle.tally.proofs.DirtyBits.{standing-size}
 use Rattle.tally.proofs.Lengths.{turn-length}
 use Rattle.recovery.specs.Turns.{clearsOf}
 use Rattle.recovery.proofs.cleaning.standing.Statement.{statement}
 use Rattle.recovery.proofs.cleaning.standing.Tie as tie
 
 abbrev Inv-loop : tie.InvT-loop
-Inv-loop labels n regions set bits₀ r₀ bits r =
+Inv-loop labels n regions set dirty bits₀ r₀ bits r =
     (r ≤ regions) × (bits ≡ length (ascending r (clearsOf n labels set))) × (bits ≤ r * mostDisks)
 
 abbrev μ-loop : tie.MeasureT-loop
-μ-loop labels n regions set bits₀ r₀ bits r = regions - r
+μ-loop labels n regions set dirty bits₀ r₀ bits r = regions - r
 
 loop-holds : tie.Need-loop-holds Inv-loop μ-loop
 unfolding ascending
 loop-holds c = (omega arith, refl, omega arith)
 
-dirty-disks-requires : tie.Need-dirty-disks-requires Inv-loop μ-loop
-dirty-disks-requires c κs = omega arith
-
-intersection-requires : tie.Need-intersection-requires Inv-loop μ-loop
-intersection-requires c κs = tt
+standing-on-requires : tie.Need-standing-on-requires Inv-loop μ-loop
+standing-on-requires c κs = let pre = c .before .before .pre in (pre .0, pre .2, pre .3)
 
 count-requires : tie.Need-count-requires Inv-loop μ-loop
 count-requires c κs = tt
@@ -43,9 +40,10 @@ loop-less c = omega arith
 
 loop-again : tie.Need-loop-again Inv-loop μ-loop
 loop-again c =
-    let a = c .before .before .before .before .before .args in
-    let l = c .before .before .before .before .loop in
-    let here = rw (← standing-size (a .labels) (l .r) (a .n) (a .set) (λ d. clear d (l .r))) at (rw (c .before .intersection .ensures, c .before .before .dirty-disks .ensures) at (c .count .ensures .0)) in
+    let start = c .before .before .before .before in
+    let a = start .args in
+    let l = c .before .before .before .loop in
+    let here = rw (← standing-size (a .labels) (l .r) (a .n) (start .pre .0) (a .set) (λ d. clear d (l .r))) at (rw (c .before .standing-on .ensures) at (c .count .ensures .0)) in
     (omega arith, turn-length (clearsOf (a .n) (a .labels) (a .set)) (l .r) (l .inv .1) here, omega arith)
 
 returns : tie.Need-returns Inv-loop μ-loop
@@ -58,8 +56,7 @@ standing-spec =
     Inv-loop
     μ-loop
     loop-holds
-    dirty-disks-requires
-    intersection-requires
+    standing-on-requires
     count-requires
     add-bits
     add-r

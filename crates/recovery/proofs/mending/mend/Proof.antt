@@ -11,12 +11,12 @@ use Rattle.recovery.proofs.RestartList.{source-apart, mend-ran}
 use Rattle.recovery.proofs.mending.mend.Statement.{statement}
 use Rattle.recovery.proofs.mending.mend.Tie as tie
 
-is-dirty-requires : tie.Need-is-dirty-requires
-is-dirty-requires c κs = search needs
+has-requires : tie.Need-has-requires
+has-requires c κs = search needs
 
 returns : tie.Need-returns
 unfolding steps
-returns c = rw (sym (c .before .is-dirty .ensures) ∙ not-true _ (c .if1 .taken))
+returns c = rw (sym (c .before .has .ensures) ∙ not-true _ (c .if1 .taken))
 
 mul-first : tie.Need-mul-first
 unfolding regions
@@ -62,14 +62,14 @@ returns-2 c =
     let start = at-dirty .before .before in
     let a = start .args in
     let copied = rw (at-others .others .ensures, at-source .source .ensures, at-blocks .region-blocks .ensures) at (at-copies .copy-blocks .ensures) in
-    rw (sym (at-dirty .is-dirty .ensures) ∙ not-false _ (branch .if1 .left))
+    rw (sym (at-dirty .has .ensures) ∙ not-false _ (branch .if1 .left))
     (mend-ran (a .size .disks) (a .size .blocks) (a .set) (a .r) _ copied (c .store-labels .ensures (a .size .blocks) _))
 
 pub mend-spec : {M : Type 1} → statement M
 mend-spec =
     tie.close
     (tie.spec
-    is-dirty-requires
+    has-requires
     returns
     mul-first
     region-blocks-requires

@@ -5,20 +5,19 @@ use native.Mathlib.Omega.{arith}
 use lib.ListN.{length}
 use Rattle.protocol.specs.Geometry.{regions}
 use Rattle.protocol.specs.Loops.{ascending}
-use Rattle.protocol.specs.Lists.{mends}
 use Rattle.stores.specs.Runs.{progress, steps}
 use Rattle.stores.proofs.Runs.{one-turn}
-use Rattle.recovery.specs.Turns.{mendOf}
+use Rattle.recovery.specs.Turns.{mendOf, mendsOf}
 use Rattle.recovery.proofs.mending.mend_all.Statement.{statement}
 use Rattle.recovery.proofs.mending.mend_all.Tie as tie
 
 abbrev Inv-loop : tie.InvT-loop
-Inv-loop area₀ labels size set regions run₀ r₀ area run r =
+Inv-loop area₀ dirty size set regions run₀ r₀ area run r =
     (r ≤ regions) × (length area ≡ length area₀)
-    × (progress run area ≡ steps (size .blocks) (ascending r (mendOf (size .disks) (size .blocks) labels set)) (progress run₀ area₀))
+    × (progress run area ≡ steps (size .blocks) (ascending r (mendOf (size .disks) (size .blocks) dirty set)) (progress run₀ area₀))
 
 abbrev μ-loop : tie.MeasureT-loop
-μ-loop area₀ labels size set regions run₀ r₀ area run r = regions - r
+μ-loop area₀ dirty size set regions run₀ r₀ area run r = regions - r
 
 regions-requires : tie.Need-regions-requires Inv-loop μ-loop
 regions-requires c κs = tt
@@ -49,7 +48,7 @@ same-length : tie.Need-same-length Inv-loop μ-loop
 same-length c = omega arith
 
 returns : tie.Need-returns Inv-loop μ-loop
-unfolding mends
+unfolding mendsOf
 returns c =
     let e : c .before .loop .r ≡ regions (c .before .before .before .before .args .size .blocks) = omega arith in
     rw e at (c .before .loop .inv .2)

@@ -7,8 +7,8 @@ use Rattle.recovery.proofs.RegionBlocks.{region-short}
 use Rattle.recovery.proofs.mending.mend_length.Statement.{statement}
 use Rattle.recovery.proofs.mending.mend_length.Tie as tie
 
-is-dirty-requires : tie.Need-is-dirty-requires
-is-dirty-requires c κs = search needs
+has-requires : tie.Need-has-requires
+has-requires c κs = search needs
 
 region-blocks-requires : tie.Need-region-blocks-requires
 region-blocks-requires c κs = search needs
@@ -41,21 +41,21 @@ returns c =
     let at-dirty = branch .before in
     let start = at-dirty .before in
     let a = start .args in
-    let dirty = sym (at-dirty .is-dirty .ensures) ∙ branch .if1 .taken in
+    let dirty = sym (at-dirty .has .ensures) ∙ branch .if1 .taken in
     let blocks = at-blocks .region-blocks .ensures in
     let others = rw (at-others .others .ensures) at (at-count .count .ensures .0) in (
-      rw (dirty, mend-size (a .size .disks) (a .size .blocks) (a .set) (a .r) (start .pre .1), blocks, others, c .count2 .ensures .0),
+      rw (dirty, mend-size (a .size .disks) (a .size .blocks) (a .set) (a .r) (start .pre .0), blocks, others, c .count2 .ensures .0),
       omega (arith, mend-most (at-blocks .region-blocks .result) (at-count .count .result) (rw blocks (region-short _ _)) (at-count .count .ensures .1)),
     )
 
 returns-2 : tie.Need-returns-2
-returns-2 c = (rw (sym (c .before .is-dirty .ensures) ∙ c .if1 .left), omega arith)
+returns-2 c = (rw (sym (c .before .has .ensures) ∙ c .if1 .left), omega arith)
 
 pub mend-length-spec : {M : Type 1} → statement M
 mend-length-spec =
     tie.close
     (tie.spec
-    is-dirty-requires
+    has-requires
     region-blocks-requires
     others-requires
     count-requires

@@ -5,18 +5,17 @@ use native.Mathlib.Omega.{arith}
 use lib.ListN.{length}
 use Rattle.protocol.specs.Geometry.{mostDisks, regionSize, regions}
 use Rattle.protocol.specs.Loops.{ascending}
-use Rattle.protocol.specs.Lists.{mends}
 use Rattle.tally.proofs.Lengths.{turn-length}
-use Rattle.recovery.specs.Turns.{mendOf}
+use Rattle.recovery.specs.Turns.{mendOf, mendsOf}
 use Rattle.recovery.proofs.mending.mends_length.Statement.{statement}
 use Rattle.recovery.proofs.mending.mends_length.Tie as tie
 
 abbrev Inv-loop : tie.InvT-loop
-Inv-loop labels size set regions stores₀ r₀ stores r =
-    (r ≤ regions) × (stores ≡ length (ascending r (mendOf (size .disks) (size .blocks) labels set))) × (stores ≤ r * ((regionSize + 1) * mostDisks))
+Inv-loop dirty size set regions stores₀ r₀ stores r =
+    (r ≤ regions) × (stores ≡ length (ascending r (mendOf (size .disks) (size .blocks) dirty set))) × (stores ≤ r * ((regionSize + 1) * mostDisks))
 
 abbrev μ-loop : tie.MeasureT-loop
-μ-loop labels size set regions stores₀ r₀ stores r = regions - r
+μ-loop dirty size set regions stores₀ r₀ stores r = regions - r
 
 regions-requires : tie.Need-regions-requires Inv-loop μ-loop
 regions-requires c κs = tt
@@ -29,7 +28,7 @@ mend-length-requires : tie.Need-mend-length-requires Inv-loop μ-loop
 unfolding regions
 mend-length-requires c κs =
     let start = c .before .before .before in
-    (start .pre .0, start .pre .2, omega arith)
+    (start .pre .1, omega arith)
 
 add-stores : tie.Need-add-stores Inv-loop μ-loop
 unfolding regions
@@ -47,7 +46,7 @@ loop-again c =
     (omega arith, turn-length _ _ (c .before .before .loop .inv .1) (c .mend-length .ensures .0), omega arith)
 
 returns : tie.Need-returns Inv-loop μ-loop
-unfolding regions mends
+unfolding regions mendsOf
 returns c =
     let e : c .before .loop .r ≡ regions (c .before .before .before .args .size .blocks) = omega arith in
     (rw e at (c .before .loop .inv .1), omega arith)

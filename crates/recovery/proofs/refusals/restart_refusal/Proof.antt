@@ -8,9 +8,6 @@ use Rattle.recovery.proofs.SoundFirst.{sound-first}
 use Rattle.recovery.proofs.refusals.restart_refusal.Statement.{statement}
 use Rattle.recovery.proofs.refusals.restart_refusal.Tie as tie
 
-sound-requires : tie.Need-sound-requires
-sound-requires c κs = search needs
-
 cast-fits : tie.Need-cast-fits
 cast-fits c = search needs
 
@@ -46,7 +43,8 @@ or-else-requires-5 c κs = search needs
 
 returns : tie.Need-returns
 returns c held h same =
-    let a = c .before .before .before .before .before .before .before .before .before .before .before .before .args in
+    let start = c .before .before .before .before .before .before .before .before .before .before .before in
+    let a = start .args in
     in-turn (refusalsFinding (a .s) held (foundOf (a .found))) refl
     (rw (
       h,
@@ -59,7 +57,7 @@ returns c held h same =
       c .before .before .before .before .before .before .is-nothing .ensures,
       c .before .before .before .before .before .before .before .is-running .ensures,
       c .before .before .before .before .before .before .before .before .fits2 .ensures,
-      c .before .before .before .before .before .before .before .before .before .before .before .sound .ensures,
+      start .pre,
     ))
     ∙ sound-first (a .s) held (foundOf (a .found)) same
 
@@ -67,7 +65,6 @@ pub restart-refusal-spec : {M : Type 1} → statement M
 restart-refusal-spec =
     tie.close
     (tie.spec
-    sound-requires
     cast-fits
     cast-fits-2
     fits-requires

@@ -8,16 +8,14 @@ use Rattle.protocol.proofs.Soundness.{test-agrees}
 use Rattle.recovery.proofs.restarting.found_by.Statement.{statement}
 use Rattle.recovery.proofs.restarting.found_by.Tie as tie
 
-sound-requires : tie.Need-sound-requires
-sound-requires c κs = search needs
-
 cast-named : tie.Need-cast-named
 cast-named c = search needs
 
 named-requires : tie.Need-named-requires
 named-requires c κs =
-    let s = c .before .before .before .before .args .s in
-    let fit = test-agrees s .0 (sym (c .before .before .before .sound .ensures) ∙ c .before .before .if1 .taken) in
+    let start = c .before .before .before in
+    let s = start .args .s in
+    let fit = test-agrees s .0 (sym (start .pre) ∙ c .before .before .if1 .taken) in
     (fit .range .disks, below-pow (s .online) (s .disks) .0 (fit .online))
 
 returns : tie.Need-returns
@@ -25,7 +23,7 @@ unfolding foundBy
 returns c is = c .named .ensures
 
 returns-2 : tie.Need-returns-2
-returns-2 c is = clash is (sym (c .before .sound .ensures) ∙ c .if1 .left)
+returns-2 c is = clash is (sym (c .before .pre) ∙ c .if1 .left)
 
 pub found-by-spec : {M : Type 1} → statement M
-found-by-spec = tie.close (tie.spec sound-requires cast-named named-requires returns returns-2)
+found-by-spec = tie.close (tie.spec cast-named named-requires returns returns-2)

@@ -8,6 +8,9 @@ use Rattle.recovery.proofs.Passed.{restart-ready}
 use Rattle.recovery.proofs.restarting.restart.Statement.{statement}
 use Rattle.recovery.proofs.restarting.restart.Tie as tie
 
+sound-requires : tie.Need-sound-requires
+sound-requires c κs = search needs
+
 found-by-requires : tie.Need-found-by-requires
 found-by-requires c κs = search needs
 
@@ -19,7 +22,7 @@ the-set-requires c κs = search needs
 
 restart-stores-requires : tie.Need-restart-stores-requires
 restart-stores-requires c κs =
-    let a = c .before .before .before .before .before .before .args in
+    let a = c .before .before .before .before .before .before .before .args in
     let found = c .before .before .before .before .found-by .ensures in
     let (ready, filled, known) = restart-ready (a .s) (a .area .now) (sym (c .before .before .before .restart-refusal .ensures _ refl found) ∙ c .before .before .if1 .taken) in
     let set = c .the-set .ensures ∙ ap theSet (found (test-agrees (a .s) .1 (ready .fit))) in
@@ -34,7 +37,7 @@ same-length c = search needs
 returns : tie.Need-returns
 unfolding restartOutcome
 returns c output =
-    let a = c .before .before .before .before .before .before .before .before .before .args in
+    let a = c .before .before .before .before .before .before .before .before .before .before .args in
     let found = c .before .before .before .before .before .before .before .found-by .ensures in
     let asked = c .before .before .before .before .before .before .restart-refusal .ensures _ refl found in
     let none = c .before .before .before .before .before .if1 .taken in
@@ -51,6 +54,7 @@ pub restart-spec : {M : Type 1} → statement M
 restart-spec =
     tie.close
     (tie.spec
+    sound-requires
     found-by-requires
     restart-refusal-requires
     the-set-requires

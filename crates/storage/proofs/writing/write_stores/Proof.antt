@@ -103,7 +103,7 @@ returns c output =
     let marks = rw (unmarked, live, dirty, size) at (at-count .count .ensures .0) in
     let blocks = rw live at (at-count2 .count2 .ensures .0) in
     rw (c .ended .ensures, live)
-    (carried s _ _ (start .args .budget) _ area _ output (write-ran s k bytes _ moved marked stored) _
+    (carried s _ _ (start .args .budget) _ area _ output (write-ran s k bytes (fit .range .disks) _ moved marked stored) _
     (omega (arith, moves, marks, blocks, write-length s k bytes fit)))
 
 pub write-stores-spec : {M : Type 1} → statement M

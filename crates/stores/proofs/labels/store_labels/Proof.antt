@@ -1,26 +1,33 @@
 -- `stores::labels::store_labels` meets its contract. Assumes nothing.
-use mathlib.Core.Logic.{⊎-elim}
 use mathlib.Core.Path.{_≡_, refl}
+use mathlib.Core.Logic.{⊎-elim}
 use mathlib.Core.List.{List, [], _∷_}
 use Prim.Native.Nat.{ℕ, _-_, _≤_}
 use native.Mathlib.Omega.{arith}
 use borrow.Author.Tests.{not-true}
 use Rattle.sets.proofs.Tests.{and-parts, positive}
 use Rattle.protocol.specs.Loops.{ascending, forEach}
+use Rattle.protocol.proofs.Loops.{for-none}
+use Rattle.stores.specs.declared.Run.{Run}
 use Rattle.stores.specs.Runs.{progress, steps}
 use Rattle.stores.specs.Changes.{changeOn}
-use Rattle.stores.proofs.Runs.{none-made}
+use Rattle.stores.proofs.Runs.{one-turn, none-made}
 use Rattle.stores.proofs.Changed.{label-made}
-use Rattle.stores.proofs.Runs.{one-turn}
 use Rattle.stores.proofs.labels.store_labels.Statement.{statement}
 use Rattle.stores.proofs.labels.store_labels.Tie as tie
 
 abbrev Inv-loop : tie.InvT-loop
-Inv-loop n set change run₀ d₀ run d =
-    (d ≤ n) × ((b : ℕ) (area : List ℕ) → progress run area ≡ steps b (forEach d set (λ e. changeOn change e ∷ [])) (progress run₀ area))
+Inv-loop n set change labels₀ left₀ d₀ labels left d =
+    (d ≤ n)
+    × ((b : ℕ) (area : List ℕ) → progress (record { labels = labels; left = left }) area
+    ≡ steps b (forEach d set (λ e. changeOn change e ∷ [])) (progress (record { labels = labels₀; left = left₀ }) area))
 
 abbrev μ-loop : tie.MeasureT-loop
-μ-loop n set change run₀ d₀ run d = n - d
+μ-loop n set change labels₀ left₀ d₀ labels left d = n - d
+
+returns : tie.Need-returns Inv-loop μ-loop
+unfolding steps
+returns c = λ b area. rw (c .if1 .taken, for-none)
 
 loop-holds : tie.Need-loop-holds Inv-loop μ-loop
 unfolding forEach ascending steps
@@ -32,20 +39,20 @@ has-requires c κs = tt
 mul-changed : tie.Need-mul-changed Inv-loop μ-loop
 mul-changed c = omega arith
 
-element-copy-out-changed : tie.Need-element-copy-out-changed Inv-loop μ-loop
-element-copy-out-changed c = omega arith
+array-copy-out-changed : tie.Need-array-copy-out-changed Inv-loop μ-loop
+array-copy-out-changed c = omega arith
 
 changed-requires : tie.Need-changed-requires Inv-loop μ-loop
-changed-requires c κs = c .before .before .before .before .before .pre .1
+changed-requires c κs = c .before .before .before .before .before .before .before .pre .1
 
-mul-l : tie.Need-mul-l Inv-loop μ-loop
-mul-l c = omega arith
+mul-labels : tie.Need-mul-labels Inv-loop μ-loop
+mul-labels c = omega arith
 
-element-set-from-l : tie.Need-element-set-from-l Inv-loop μ-loop
-element-set-from-l c = omega arith
+array-set-from-labels : tie.Need-array-set-from-labels Inv-loop μ-loop
+array-set-from-labels c = omega arith
 
-sub-run : tie.Need-sub-run Inv-loop μ-loop
-sub-run c = omega (arith, positive (c .before .before .before .before .before .loop .run .left) (not-true _ (and-parts _ _ (c .before .before .if1 .taken) .0)))
+sub-left : tie.Need-sub-left Inv-loop μ-loop
+sub-left c = omega (arith, positive (c .before .before .before .before .before .loop .left) (not-true _ (and-parts _ _ (c .before .before .if2 .taken) .0)))
 
 add-d : tie.Need-add-d Inv-loop μ-loop
 add-d c = omega arith
@@ -57,18 +64,19 @@ loop-again : tie.Need-loop-again Inv-loop μ-loop
 unfolding forEach
 loop-again c =
     let at = c .before .before .before .loop in
-    let a = c .before .before .before .before .args in
-    let asked = c .before .has .ensures in (
+    let a = c .before .before .before .before .before .before .args in
+    let asked = c .before .has .ensures in
+    let run : Run = record { labels = at .labels; left = at .left } in (
       omega arith,
       λ b area. one-turn b _ _ _ (at .inv .1 b area)
           (⊎-elim
-          (λ w. rw (w .3, w .2 .ensures) (label-made b (a .set) (at .d) (a .change) (at .run) area (rw asked at (w .0 .taken))))
-          (λ w. rw (w .1) (none-made b (a .set) (at .d) (changeOn (a .change) (at .d)) (progress (at .run) area) (rw asked at (w .0 .left))))
-          (c .if1 .came)),
+          (λ w. rw (w .3, w .4, w .2 .ensures) (label-made b (a .set) (at .d) (a .change) run area (rw asked at (w .0 .taken))))
+          (λ w. rw (w .1, w .2) (none-made b (a .set) (at .d) (changeOn (a .change) (at .d)) (progress run area) (rw asked at (w .0 .left))))
+          (c .if2 .came)),
     )
 
-returns : tie.Need-returns Inv-loop μ-loop
-returns c = λ b area. let e : c .before .loop .d ≡ c .before .before .args .n = omega arith in rw e at (c .before .loop .inv .1 b area)
+returns-2 : tie.Need-returns-2 Inv-loop μ-loop
+returns-2 c = λ b area. let e : c .before .loop .d ≡ c .before .before .before .before .args .n = omega arith in rw e at (c .before .loop .inv .1 b area)
 
 pub store-labels-spec : {M : Type 1} → statement M
 store-labels-spec =
@@ -76,15 +84,16 @@ store-labels-spec =
     (tie.spec
     Inv-loop
     μ-loop
+    returns
     loop-holds
     has-requires
     mul-changed
-    element-copy-out-changed
+    array-copy-out-changed
     changed-requires
-    mul-l
-    element-set-from-l
-    sub-run
+    mul-labels
+    array-set-from-labels
+    sub-left
     add-d
     loop-less
     loop-again
-    returns)
+    returns-2)

@@ -1,20 +1,26 @@
 -- `tally::dirty::dirty_disks` meets its contract. Assumes nothing.
 use mathlib.Core.Path.{_≡_, refl}
+use mathlib.Core.Bool.{cond, _&&_}
 use Prim.Native.Nat.{_-_, _≤_}
 use native.Mathlib.Numerals.{add-one}
 use native.Mathlib.Omega.{arith}
-use Rattle.tally.specs.DirtyDisks.{dirtyDisks}
+use lib.Dec.{ltb}
+use Rattle.sets.specs.Sets.{has, singleton}
+use Rattle.protocol.specs.Geometry.{mostDisks}
+use Rattle.protocol.specs.Loops.{unionBelow}
+use Rattle.protocol.specs.States.{isDirty}
+use Rattle.tally.specs.DirtyBits.{dirtyDisks}
 use Rattle.tally.proofs.dirty.dirty_disks.Statement.{statement}
 use Rattle.tally.proofs.dirty.dirty_disks.Tie as tie
 
 abbrev Inv-loop : tie.InvT-loop
-Inv-loop n r labels set₀ d₀ set d = (d ≤ n) × (set ≡ dirtyDisks d labels r)
+Inv-loop n r labels set₀ d₀ set d = (d ≤ mostDisks) × (set ≡ unionBelow d (λ e. cond (ltb e n && isDirty labels e r) (singleton e) 0))
 
 abbrev μ-loop : tie.MeasureT-loop
-μ-loop n r labels set₀ d₀ set d = n - d
+μ-loop n r labels set₀ d₀ set d = mostDisks - d
 
 loop-holds : tie.Need-loop-holds Inv-loop μ-loop
-unfolding dirtyDisks
+unfolding unionBelow
 loop-holds c = (omega arith, refl)
 
 mul-l : tie.Need-mul-l Inv-loop μ-loop
@@ -26,8 +32,14 @@ array-copy-out-l c = omega arith
 has-requires : tie.Need-has-requires Inv-loop μ-loop
 has-requires c κs = tt
 
-with-disk-requires : tie.Need-with-disk-requires Inv-loop μ-loop
-with-disk-requires c κs = omega arith
+singleton-requires : tie.Need-singleton-requires Inv-loop μ-loop
+singleton-requires c κs = omega arith
+
+only-if-requires : tie.Need-only-if-requires Inv-loop μ-loop
+only-if-requires c κs = tt
+
+union-requires : tie.Need-union-requires Inv-loop μ-loop
+union-requires c κs = tt
 
 add-d : tie.Need-add-d Inv-loop μ-loop
 add-d c = omega arith
@@ -36,13 +48,12 @@ loop-less : tie.Need-loop-less Inv-loop μ-loop
 loop-less c = omega arith
 
 loop-again : tie.Need-loop-again Inv-loop μ-loop
-unfolding dirtyDisks
-loop-again c =
-    let at = c .before .before .before .before in
-    (omega arith, rw (add-one, dirtyDisks, c .with-disk .ensures, c .before .has .ensures, at .loop .inv .1))
+unfolding unionBelow
+loop-again c = (omega arith, rw (add-one, c .union .ensures, c .before .only-if .ensures, c .before .before .singleton .ensures, c .before .before .before .has .ensures, c .before .before .before .before .before .before .loop .inv .1))
 
 returns : tie.Need-returns Inv-loop μ-loop
-returns c = let e : c .before .loop .d ≡ c .before .before .args .n = omega arith in rw e at (c .before .loop .inv .1)
+unfolding dirtyDisks
+returns c = let e : c .before .loop .d ≡ mostDisks = omega arith in rw e at (c .before .loop .inv .1)
 
 pub dirty-disks-spec : {M : Type 1} → statement M
 dirty-disks-spec =
@@ -54,7 +65,9 @@ dirty-disks-spec =
     mul-l
     array-copy-out-l
     has-requires
-    with-disk-requires
+    singleton-requires
+    only-if-requires
+    union-requires
     add-d
     loop-less
     loop-again
