@@ -18,7 +18,6 @@ int main(void)
     uint8_t sevens[CABINET_BLOCK_SIZE], eights[CABINET_BLOCK_SIZE], found[CABINET_BLOCK_SIZE] = {0};
     memset(sevens, 7, sizeof sevens);
     memset(eights, 8, sizeof eights);
-    printf("a state has %zu bytes, an answer %zu\n", sizeof(struct cabinet_state), sizeof(struct cabinet_answer));
     struct cabinet_state s = expect(CABINET_DONE, "format", cabinet_format(3, 8, area, sizeof area));
     s = expect(CABINET_DONE, "write", cabinet_write(s, area, sizeof area, 0, sevens, sizeof sevens, 99));
     s = expect(CABINET_POWER_LOST, "write", cabinet_write(s, area, sizeof area, 0, eights, sizeof eights, 1));
