@@ -1,6 +1,6 @@
 /*
- * The calls of the cohort-set disk cabinet (document 01), for C99 and C++ on x86-64 Linux. Each function is proved to give
- * what the definition of its call says: crates/protocol/specs/Calls.antt and Saving.antt.
+ * The calls of the cohort-set disk cabinet (document 01), for C99 and C++ on x86-64 Linux. Each function is proved to
+ * give what the definition of its call says: crates/protocol/specs/Calls.antt and Saving.antt.
  *
  * Build and link:  rt staticlib exports
  *                  cc -Iinclude program.c target/staticlib/libexports.a
