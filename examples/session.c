@@ -1,0 +1,38 @@
+/* Document 01's session, then clean, save and assemble: each function of the header, and each field of its structs. */
+#include "cabinet.h"
+#include <stdio.h>
+#include <string.h>
+
+/* Prints what the cabinet program does, but for the byte read. */
+static struct cabinet_state told(struct cabinet_answer answer)
+{
+    printf("%d %d %d %d\n", answer.refusal, answer.stores, answer.state.current, answer.state.online);
+    return answer.state;
+}
+
+int main(void)
+{
+    static uint8_t area[3 * 8 * CABINET_BLOCK_SIZE];
+    uint8_t sevens[CABINET_BLOCK_SIZE], found[CABINET_BLOCK_SIZE], slots[3 * CABINET_SLOT_SIZE];
+    memset(sevens, 7, sizeof sevens);
+    struct cabinet_state s = told(cabinet_format(3, 8, area, sizeof area));
+    s = told(cabinet_detach(s, 2));
+    s = told(cabinet_write(s, area, sizeof area, 0, sevens, sizeof sevens, 99));
+    s = told(cabinet_power_off(s));
+    s = told(cabinet_restart(s, area, sizeof area, 99));
+    s = told(cabinet_attach(s, 2));
+    s = told(cabinet_join(s, area, sizeof area, 2, 99));
+    s = told(cabinet_read(s, area, sizeof area, 0, found, sizeof found));
+    printf("%s\n", memcmp(found, sevens, sizeof found) == 0 ? "sevens" : "other bytes");
+
+    s = told(cabinet_write(s, area, sizeof area, 7, sevens, sizeof sevens, 99));
+    s = told(cabinet_detach(s, 0));
+    s = told(cabinet_clean(s, 99));
+    s = told(cabinet_write(s, area, sizeof area, 7, sevens, sizeof sevens, 3));
+    s = told(cabinet_save(s, slots, sizeof slots));
+    s = told(cabinet_assemble(3, 8, 5, slots, sizeof slots));
+    printf("%d disks of %d blocks\n", s.disks, s.blocks);
+    for (int d = 0; d < CABINET_MOST_DISKS; d++)
+        printf("%d %d %d\n", s.labels[d].committed, s.labels[d].tentative, s.labels[d].dirty);
+    return 0;
+}
