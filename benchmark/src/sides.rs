@@ -74,7 +74,7 @@ fn proved_state(state: plain::State) -> cabinet::State {
 fn plain_answer(answer: cabinet::Answer) -> plain::Answer {
     let state = answer.state;
     plain::Answer {
-        result: answer.outcome.err().map_or(0, cabinet::Refusal::number),
+        result: answer.outcome().err().map_or(0, cabinet::Refusal::number),
         stores: answer.stores,
         state: plain::State {
             disks: state.disks,

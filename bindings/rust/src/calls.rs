@@ -3,35 +3,16 @@
 //! What makes it safe: the library keeps no pointer beyond the call, reads and writes a buffer only within the length
 //! given with it, and has no data of its own, so calls may be made from several threads at once. Each pointer and
 //! length below come from one Rust slice, which is valid for the call and which no other argument overlaps, since it is
-//! borrowed. `State` and `RawAnswer` are laid out as C does and hold numbers only, so any bytes are good ones.
+//! borrowed. `State` and `Answer` are laid out as C does and hold numbers only, so any bytes are good ones.
 
 use crate::answer::Answer;
-use crate::refusal;
 use crate::state::State;
 
-/// The answer as the library gives it.
-#[repr(C)]
-struct RawAnswer {
-    stores: u16,
-    refusal: u8,
-    state: State,
-}
-
-const _: () = assert!(size_of::<State>() == 28 && size_of::<RawAnswer>() == 32);
-
-impl From<RawAnswer> for Answer {
-    fn from(raw: RawAnswer) -> Answer {
-        Answer {
-            outcome: refusal::outcome(raw.refusal),
-            stores: raw.stores,
-            state: raw.state,
-        }
-    }
-}
+const _: () = assert!(size_of::<State>() == 28 && size_of::<Answer>() == 32);
 
 // SAFETY: these are the library's declarations, a slice being a pointer and then a length; see above.
 unsafe extern "C" {
-    fn cabinet_format(disks: usize, blocks: usize, area: *mut u8, area_length: usize) -> RawAnswer;
+    fn cabinet_format(disks: usize, blocks: usize, area: *mut u8, area_length: usize) -> Answer;
     fn cabinet_read(
         state: State,
         area: *const u8,
@@ -39,7 +20,7 @@ unsafe extern "C" {
         block: usize,
         output: *mut u8,
         output_length: usize,
-    ) -> RawAnswer;
+    ) -> Answer;
     fn cabinet_write(
         state: State,
         area: *mut u8,
@@ -48,15 +29,15 @@ unsafe extern "C" {
         data: *const u8,
         data_length: usize,
         budget: u16,
-    ) -> RawAnswer;
-    fn cabinet_join(state: State, area: *mut u8, area_length: usize, disk: usize, budget: u16) -> RawAnswer;
-    safe fn cabinet_clean(state: State, budget: u16) -> RawAnswer;
-    fn cabinet_restart(state: State, area: *mut u8, area_length: usize, budget: u16) -> RawAnswer;
-    safe fn cabinet_detach(state: State, disk: usize) -> RawAnswer;
-    safe fn cabinet_attach(state: State, disk: usize) -> RawAnswer;
-    safe fn cabinet_power_off(state: State) -> RawAnswer;
-    fn cabinet_save(state: State, slots: *mut u8, slots_length: usize) -> RawAnswer;
-    fn cabinet_assemble(disks: usize, blocks: usize, online: u8, slots: *const u8, slots_length: usize) -> RawAnswer;
+    ) -> Answer;
+    fn cabinet_join(state: State, area: *mut u8, area_length: usize, disk: usize, budget: u16) -> Answer;
+    safe fn cabinet_clean(state: State, budget: u16) -> Answer;
+    fn cabinet_restart(state: State, area: *mut u8, area_length: usize, budget: u16) -> Answer;
+    safe fn cabinet_detach(state: State, disk: usize) -> Answer;
+    safe fn cabinet_attach(state: State, disk: usize) -> Answer;
+    safe fn cabinet_power_off(state: State) -> Answer;
+    fn cabinet_save(state: State, slots: *mut u8, slots_length: usize) -> Answer;
+    fn cabinet_assemble(disks: usize, blocks: usize, online: u8, slots: *const u8, slots_length: usize) -> Answer;
 }
 
 /// The calls. None asks anything of its caller: each takes whatever it is given, and refuses what does not fit by the
@@ -69,7 +50,7 @@ impl State {
     /// leaves the area.
     pub fn format(disks: usize, blocks: usize, area: &mut [u8]) -> Answer {
         // SAFETY: as the module says.
-        unsafe { cabinet_format(disks, blocks, area.as_mut_ptr(), area.len()) }.into()
+        unsafe { cabinet_format(disks, blocks, area.as_mut_ptr(), area.len()) }
     }
 
     /// Copies the block into `output`, which is of 64 bytes, from the lowest current disk that is in reach.
@@ -79,7 +60,7 @@ impl State {
     pub fn read(self, area: &[u8], block: usize, output: &mut [u8]) -> Answer {
         let (to, length) = (output.as_mut_ptr(), output.len());
         // SAFETY: as the module says.
-        unsafe { cabinet_read(self, area.as_ptr(), area.len(), block, to, length) }.into()
+        unsafe { cabinet_read(self, area.as_ptr(), area.len(), block, to, length) }
     }
 
     /// Writes the 64 bytes of `data` as the block, on each current disk that is in reach. If some are not, the
@@ -90,7 +71,7 @@ impl State {
     pub fn write(self, area: &mut [u8], block: usize, data: &[u8], budget: u16) -> Answer {
         let (from, length) = (data.as_ptr(), data.len());
         // SAFETY: as the module says.
-        unsafe { cabinet_write(self, area.as_mut_ptr(), area.len(), block, from, length, budget) }.into()
+        unsafe { cabinet_write(self, area.as_mut_ptr(), area.len(), block, from, length, budget) }
     }
 
     /// Makes a disk in reach current: it gets all blocks, then the cabinet moves to the current disks in reach and this
@@ -100,14 +81,14 @@ impl State {
     /// no current disk in reach, 15 the power lost.
     pub fn join(self, area: &mut [u8], disk: usize, budget: u16) -> Answer {
         // SAFETY: as the module says.
-        unsafe { cabinet_join(self, area.as_mut_ptr(), area.len(), disk, budget) }.into()
+        unsafe { cabinet_join(self, area.as_mut_ptr(), area.len(), disk, budget) }
     }
 
     /// Clears the dirty bits of the current disks in reach (the paper's quiet), so that a restart need not copy.
     ///
     /// Refusals: 1 not sound, 6 stopped, 12 no current disk in reach, 15 the power lost.
     pub fn clean(self, budget: u16) -> Answer {
-        cabinet_clean(self, budget).into()
+        cabinet_clean(self, budget)
     }
 
     /// Starts a stopped cabinet: finds the current set from the labels in reach, makes its dirty regions equal and runs
@@ -116,28 +97,28 @@ impl State {
     /// Refusals: 1 not sound, 2 the area's length, 7 running, 13 no set, 14 several sets, 15 the power lost.
     pub fn restart(self, area: &mut [u8], budget: u16) -> Answer {
         // SAFETY: as the module says.
-        unsafe { cabinet_restart(self, area.as_mut_ptr(), area.len(), budget) }.into()
+        unsafe { cabinet_restart(self, area.as_mut_ptr(), area.len(), budget) }
     }
 
     /// The disk is pulled out (the paper's lose). Done, with no effect, for one that is out of reach.
     ///
     /// Refusals: 1 not sound, 8 no such disk.
     pub fn detach(self, disk: usize) -> Answer {
-        cabinet_detach(self, disk).into()
+        cabinet_detach(self, disk)
     }
 
     /// The disk is pushed back (the paper's return). It is current again if the cabinet has not moved on without it.
     ///
     /// Refusals: 1 not sound, 8 no such disk.
     pub fn attach(self, disk: usize) -> Answer {
-        cabinet_attach(self, disk).into()
+        cabinet_attach(self, disk)
     }
 
     /// The power goes (the paper's cut). Done, with no effect, for a stopped cabinet.
     ///
     /// Refusals: 1 not sound.
     pub fn power_off(self) -> Answer {
-        cabinet_power_off(self).into()
+        cabinet_power_off(self)
     }
 
     /// Writes the labels into `slots`, 5 bytes a disk. The number of blocks and the disks in reach are not in them.
@@ -145,7 +126,7 @@ impl State {
     /// Refusals: 1 not sound, 2 the length of the slots.
     pub fn save(self, slots: &mut [u8]) -> Answer {
         // SAFETY: as the module says.
-        unsafe { cabinet_save(self, slots.as_mut_ptr(), slots.len()) }.into()
+        unsafe { cabinet_save(self, slots.as_mut_ptr(), slots.len()) }
     }
 
     /// The stopped cabinet that these slots were saved from, with the disks of the set `online` in reach.
@@ -155,6 +136,6 @@ impl State {
     /// region. Refused, it yields the default state.
     pub fn assemble(disks: usize, blocks: usize, online: u8, slots: &[u8]) -> Answer {
         // SAFETY: as the module says.
-        unsafe { cabinet_assemble(disks, blocks, online, slots.as_ptr(), slots.len()) }.into()
+        unsafe { cabinet_assemble(disks, blocks, online, slots.as_ptr(), slots.len()) }
     }
 }

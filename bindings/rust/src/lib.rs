@@ -10,19 +10,19 @@
 //!
 //! let mut area = vec![0; area_length(3, 8).expect("a cabinet may have 3 disks of 8 blocks")];
 //! let formatted = State::format(3, 8, &mut area);
-//! formatted.outcome?;
+//! formatted.outcome()?;
 //!
 //! let written = formatted.state.write(&mut area, 0, &[7; BLOCK_SIZE], 99);
-//! written.outcome?;
+//! written.outcome()?;
 //!
 //! // The power goes after one store of the next write: the new block is then on one disk of three.
 //! let cut = written.state.write(&mut area, 0, &[8; BLOCK_SIZE], 1);
-//! assert_eq!((cut.outcome, cut.stores), (Err(Refusal::PowerLost), 1));
+//! assert_eq!((cut.outcome(), cut.stores), (Err(Refusal::PowerLost), 1));
 //!
 //! let restarted = cut.state.restart(&mut area, 99);
-//! restarted.outcome?;
+//! restarted.outcome()?;
 //! let mut block = [0; BLOCK_SIZE];
-//! restarted.state.read(&area, 0, &mut block).outcome?;
+//! restarted.state.read(&area, 0, &mut block).outcome()?;
 //! assert_eq!(block, [8; BLOCK_SIZE]);
 //! # Ok::<(), Refusal>(())
 //! ```

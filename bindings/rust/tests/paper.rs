@@ -14,7 +14,7 @@ impl Cabinet {
         let length = area_length(disks, blocks).expect("the paper's cabinets exist");
         let mut area = vec![0xa5; length];
         let answer = State::format(disks, blocks, &mut area);
-        assert_eq!((answer.outcome, answer.stores), (Ok(()), 0));
+        assert_eq!((answer.outcome(), answer.stores), (Ok(()), 0));
         assert_eq!(area, vec![0; length]);
         let state = answer.state;
         Cabinet { state, area }
@@ -23,7 +23,7 @@ impl Cabinet {
     /// Goes on with the state of the answer, and gives what the cabinet program prints of it but the byte read.
     fn follow(&mut self, answer: Answer) -> [u16; 4] {
         self.state = answer.state;
-        let result = answer.outcome.map_or_else(Refusal::number, |()| 0);
+        let result = answer.outcome().map_or_else(Refusal::number, |()| 0);
         [
             result.into(),
             answer.stores,
@@ -46,7 +46,7 @@ impl Cabinet {
     fn block(&self, block: usize) -> [u8; BLOCK_SIZE] {
         let mut output = [0xee; BLOCK_SIZE];
         let answer = self.state.read(&self.area, block, &mut output);
-        assert_eq!((answer.outcome, answer.stores, answer.state), (Ok(()), 0, self.state));
+        assert_eq!((answer.outcome(), answer.stores, answer.state), (Ok(()), 0, self.state));
         output
     }
 }
@@ -95,10 +95,10 @@ fn a_saved_cabinet_assembles_to_the_one_after_a_cut() {
     assert_eq!(cabinet.write(0, 7, 99), [0, 6, 7, 7]);
     let mut slots = [0xee; 15];
     let saved = cabinet.state.save(&mut slots);
-    assert_eq!(saved.outcome, Ok(()));
+    assert_eq!(saved.outcome(), Ok(()));
     assert_eq!(slots, [5, 0x30, 7, 1, 0, 5, 0x31, 7, 1, 0, 5, 0x32, 7, 1, 0]);
     let assembled = State::assemble(3, 9, 7, &slots);
-    assert_eq!(assembled.outcome, Ok(()));
+    assert_eq!(assembled.outcome(), Ok(()));
     assert_eq!(assembled.state, cabinet.state.power_off().state);
 }
 
@@ -110,6 +110,6 @@ fn h12_a_blank_disk() {
         ..State::default()
     };
     let mut slots = [0xee; 5];
-    assert_eq!(blank.save(&mut slots).outcome, Ok(()));
+    assert_eq!(blank.save(&mut slots).outcome(), Ok(()));
     assert_eq!(slots, [0, 0x10, 0, 0, 0]);
 }

@@ -65,12 +65,11 @@ fn apart() -> State {
 fn is_refused(refusal: Refusal, call: Call, before: State, after: State, lengths: (usize, usize)) {
     let bytes = |length| (0..length).map(|i| i as u8 | 1).collect::<Vec<u8>>();
     let (mut area, mut other) = (bytes(lengths.0), bytes(lengths.1));
-    let expected = Answer {
-        outcome: Err(refusal),
-        stores: 0,
-        state: after,
-    };
-    assert_eq!(call(before, &mut area, &mut other), expected);
+    let answer = call(before, &mut area, &mut other);
+    assert_eq!(
+        (answer.outcome(), answer.stores, answer.state),
+        (Err(refusal), 0, after)
+    );
     assert_eq!((area, other), (bytes(lengths.0), bytes(lengths.1)));
 }
 
@@ -185,7 +184,7 @@ fn assemble_refuses_numbers() {
 
 #[test]
 fn assemble_refuses_slots() {
-    let refused = |slots: [u8; 10]| State::assemble(2, 9, 3, &slots).outcome;
+    let refused = |slots: [u8; 10]| State::assemble(2, 9, 3, &slots).outcome();
     assert_eq!(refused([0, 0x20, 0, 0, 0, 8, 0x21, 0, 0, 0]), Err(LabelMap));
     assert_eq!(refused([0, 0x20, 0, 0, 0, 0, 0x91, 0, 0, 0]), Err(LabelPlace));
     assert_eq!(refused([0, 0x20, 0, 0, 0, 0, 0x20, 0, 0, 0]), Err(LabelPlace));

@@ -32,7 +32,7 @@ impl Implementation for Proved {
             Call::Assemble => cabinet::State::assemble(case.disks, case.blocks, case.reach, buffer),
         };
         Outcome {
-            result: answer.outcome.map_or_else(Refusal::number, |()| 0),
+            result: answer.outcome().map_or_else(Refusal::number, |()| 0),
             stores: answer.stores.into(),
             state: from_product(answer.state),
             area: guarded_area.into_bytes(),
