@@ -50,17 +50,17 @@ struct cabinet_label {
 };
 
 struct cabinet_state {
+    struct cabinet_label labels[CABINET_MOST_DISKS];
     uint8_t disks;
     uint8_t blocks;  /* of each disk */
     uint8_t online;  /* the set of disks in reach */
     uint8_t current; /* the set of disks that hold the right blocks; 0 when stopped */
-    struct cabinet_label labels[CABINET_MOST_DISKS];
 };
 
 struct cabinet_answer {
+    struct cabinet_state state;
     uint16_t stores; /* the number of stores made */
     uint8_t refusal; /* an enum cabinet_refusal */
-    struct cabinet_state state;
 };
 
 /* Document 01's numbers. A call gives the first in its own order whose condition holds. */

@@ -10,12 +10,12 @@ use crate::state::State;
 #[repr(C)]
 #[derive(Clone, Copy, Debug, PartialEq, Eq)]
 pub struct Answer {
+    /// The state after the call.
+    pub state: State,
     /// The number of stores made.
     pub stores: u16,
     /// 0, or the refusal's number. It stays a number, as the library gives it, so that an answer need not be copied.
     refusal: u8,
-    /// The state after the call.
-    pub state: State,
 }
 
 impl Answer {

@@ -42,6 +42,8 @@ pub struct Label {
 #[repr(C)]
 #[derive(Clone, Copy, Debug, Default, PartialEq, Eq, Hash)]
 pub struct State {
+    /// The labels, that of disk d at d.
+    pub labels: [Label; MOST_DISKS],
     /// The number of disks, n.
     pub disks: u8,
     /// The number of blocks a disk, b.
@@ -50,6 +52,4 @@ pub struct State {
     pub online: u8,
     /// The current set, G; 0 when the cabinet is stopped.
     pub current: u8,
-    /// The labels, that of disk d at d.
-    pub labels: [Label; MOST_DISKS],
 }

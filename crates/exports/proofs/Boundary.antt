@@ -1,13 +1,46 @@
--- What a program outside sees of a call, from what the call yields. Assumes nothing.
-use mathlib.Core.Path.{_≡_}
+-- What a program outside sees of a call, from what the call yields; and that each state has one writing. Assumes nothing.
+use mathlib.Core.Path.{_≡_, refl, ap}
+use mathlib.Core.Bool.{cond}
 use mathlib.Core.List.{List}
-use Prim.Native.Nat.{ℕ}
+use Prim.Native.Nat.{ℕ, _<_}
+use native.Mathlib.Omega.{arith}
+use lib.Dec.{eqb}
+use borrow.Author.Tests.{eqb-true, ne-eqb}
+use Rattle.sets.proofs.Tests.{Test, passes, fails, test}
+use Rattle.label.specs.declared.Label.{Label}
+use Rattle.protocol.specs.declared.Power.{Power}
+use Rattle.protocol.specs.declared.Power.the-variants.{Stopped, Running}
+use Rattle.protocol.specs.declared.State.{State}
+use Rattle.protocol.specs.States.{currentOf}
+use Rattle.protocol.specs.Soundness.{FitPower, Sound}
 use Rattle.protocol.specs.declared.Answer.{Answer}
 use Rattle.protocol.specs.Outcomes.{Outcome}
+use Rattle.exports.specs.declared.flat.FlatState.{FlatState}
 use Rattle.exports.specs.declared.flat.FlatAnswer.{FlatAnswer}
-use Rattle.exports.specs.Flat.{Seen, flatAnswer, seen}
+use Rattle.exports.specs.Flat.{Seen, powerOf, opened, flat, flatAnswer, seen, OpenedIsWritten, SoundIsWritten}
 
 pub seen-of : (r : FlatAnswer) (a : Answer) (area output : List ℕ) (o : Outcome) → r ≡ flatAnswer a → record { answer = a; area = area; output = output } ≡ o
     → _≡_ {A = Seen} (record { answer = r; area = area; output = output }) (seen o)
 unfolding seen
 seen-of r a area output o given yields = rw (← yields, given)
+
+current-written : (g : ℕ) → currentOf (powerOf g) ≡ g
+unfolding powerOf
+current-written g = go (test (eqb g 0))
+  where
+    go : Test (eqb g 0) → currentOf (cond (eqb g 0) Stopped (Running g)) ≡ g
+    go (passes e) = rw (e, eqb-true g 0 e)
+    go (fails e) = rw e
+
+pub opened-is-written : OpenedIsWritten
+unfolding flat opened
+opened-is-written f = rw (current-written (f .current))
+
+power-written : (n : ℕ) (labels : List Label) (p : Power) → FitPower n labels p → powerOf (currentOf p) ≡ p
+unfolding powerOf
+power-written n labels Stopped h = refl
+power-written n labels (Running g) h = rw (ne-eqb g 0 (λ e. omega (arith, h .filled)))
+
+pub sound-is-written : SoundIsWritten
+unfolding flat opened
+sound-is-written s h = rw (power-written (s .disks) (s .labels) (s .power) (h .power))

@@ -1,4 +1,5 @@
 -- A state and what a call yields, as programs in C and Rust hold them.
+use mathlib.Core.Path.{_≡_}
 use mathlib.Core.Bool.{cond}
 use mathlib.Core.List.{List}
 use Prim.Native.Nat.{ℕ}
@@ -8,11 +9,12 @@ use Rattle.protocol.specs.declared.Power.the-variants.{Stopped, Running}
 use Rattle.protocol.specs.declared.State.{State}
 use Rattle.protocol.specs.declared.Answer.{Answer}
 use Rattle.protocol.specs.States.{currentOf}
+use Rattle.protocol.specs.Soundness.{Sound}
 use Rattle.protocol.specs.Outcomes.{Outcome}
 use Rattle.exports.specs.declared.flat.FlatState.{FlatState}
 use Rattle.exports.specs.declared.flat.FlatAnswer.{FlatAnswer}
 
--- "either running with a current set G, or stopped with none": no current set is written 0, as the cabinet program prints it
+-- "either running with a current set G, or stopped with none": none is written 0, as the cabinet program prints it
 unfoldable pub powerOf : ℕ → Power
 powerOf g = cond (eqb g 0) Stopped (Running g)
 
@@ -21,10 +23,10 @@ unfoldable pub opened : FlatState → State
 opened f = record { disks = f .disks; blocks = f .blocks; labels = f .labels; online = f .online; power = powerOf (f .current) }
 
 unfoldable pub flat : State → FlatState
-flat s = record { disks = s .disks; blocks = s .blocks; online = s .online; current = currentOf (s .power); labels = s .labels }
+flat s = record { labels = s .labels; disks = s .disks; blocks = s .blocks; online = s .online; current = currentOf (s .power) }
 
 unfoldable pub flatAnswer : Answer → FlatAnswer
-flatAnswer a = record { stores = a .stores; refusal = a .refusal; state = flat (a .state) }
+flatAnswer a = record { state = flat (a .state); stores = a .stores; refusal = a .refusal }
 
 -- what a program outside sees of a call
 pub record Seen : Type 0 where
@@ -34,3 +36,13 @@ pub record Seen : Type 0 where
 
 unfoldable pub seen : Outcome → Seen
 seen o = record { answer = flatAnswer (o .answer); area = o .area; output = o .output }
+
+-- ---- one way of writing each
+
+-- Every flat state stands for one state, and is that state's writing: what a call leaves as it was, it gives back as it was.
+abbrev pub OpenedIsWritten : Type 0
+OpenedIsWritten = (f : FlatState) → flat (opened f) ≡ f
+
+-- Every sound state is written as one that stands for it. (A running one with no current disk has no writing, and is not sound.)
+abbrev pub SoundIsWritten : Type 0
+SoundIsWritten = (s : State) → Sound s → opened (flat s) ≡ s

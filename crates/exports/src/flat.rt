@@ -1,4 +1,5 @@
-// States and answers as programs in C and Rust hold them: numbers only, laid out as C does.
+// States and answers as programs in C and Rust hold them: numbers only, laid out as C does. The labels come first, and the
+// state in an answer: so compiled code copies them in pieces that start where they do.
 ghost use mathlib.Core.Path.{_≡_};
 ghost use Rattle.exports.specs.Flat.{powerOf, opened, flat, flatAnswer};
 use label::Label;
@@ -12,19 +13,19 @@ use sets::Mask;
 // not sound, so nothing is lost.
 #[repr(C)]
 pub struct FlatState {
+    pub labels: [Label; DISKS],
     pub disks: u8,
     pub blocks: u8,
     pub online: Mask,
     pub current: Mask,
-    pub labels: [Label; DISKS],
 }
 
 // The answer of every exported call.
 #[repr(C)]
 pub struct FlatAnswer {
+    pub state: FlatState,
     pub stores: u16,
     pub refusal: u8,
-    pub state: FlatState,
 }
 
 fn power_of(current: Mask) -> Power
@@ -56,11 +57,11 @@ fn flat(s: State) -> FlatState
     let labels = s.labels;
     let power = s.power;
     FlatState {
+        labels: labels,
         disks: s.disks,
         blocks: s.blocks,
         online: s.online,
         current: state::current(power),
-        labels: labels,
     }
 }
 
@@ -69,8 +70,8 @@ pub(crate) fn flat_answer(answer: Answer) -> FlatAnswer
 {
     let s = answer.state;
     FlatAnswer {
+        state: flat(s),
         stores: answer.stores,
         refusal: answer.refusal,
-        state: flat(s),
     }
 }
