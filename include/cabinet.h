@@ -14,11 +14,12 @@
  * 0 stores and the state that was given, and leaves the buffers; cabinet_format and cabinet_assemble, which are given
  * no state, then yield one that is all zero. A done call has refusal 0.
  *
- * Any state may be passed: one that is not sound is refused with 1. A stopped cabinet is written current == 0, and only
- * so: any other value is read as the current set of a running cabinet. A state is sound when disks is 1 to 8 and blocks
- * 1 to 64; all sets name only disks below disks; a committed or tentative set that is not 0 names its own disk; dirty
- * bits name existing regions; labels from disks up are all zero; and, when it runs, each current disk has the current
- * set as its committed one and no tentative one.
+ * Any state may be passed: one that is not sound is refused with 1. A stopped cabinet is written current == 0. Any
+ * other writing is not a stopped cabinet's: it is read as a running one's, with current as its current set, and refused
+ * with 1 unless that is sound. A state is sound when disks is 1 to 8 and blocks 1 to 64; all sets name only disks below
+ * disks; a committed or tentative set that is not 0 names its own disk; dirty bits name existing regions; labels from
+ * disks up are all zero; and, when it runs, each current disk has the current set as its committed one and no tentative
+ * one.
  *
  * What the caller owes, since C checks none of it: a buffer's pointer is not null, even for length 0, and has as many
  * bytes as its length says; the buffers of one call do not overlap. A number too wide for its parameter is reduced by C

@@ -2,6 +2,7 @@
 
 use crate::rows::{Buffers, Call, Row, BLOCK, BLOCKS, DISK, DISKS, SUPPLY};
 use crate::timing::repeat;
+use differential::implementations::{from_product, to_product};
 use reference::plain;
 use std::hint::black_box;
 use std::time::Duration;
@@ -36,7 +37,7 @@ pub const PROVED: Side<cabinet::State, cabinet::Answer> = Side {
     power_off: cabinet::State::power_off,
     save: cabinet::State::save,
     assemble: cabinet::State::assemble,
-    state: proved_state,
+    state: to_product,
     answer: plain_answer,
 };
 
@@ -57,36 +58,11 @@ pub const PLAIN: Side<plain::State, plain::Answer> = Side {
     answer: |answer| answer,
 };
 
-fn proved_state(state: plain::State) -> cabinet::State {
-    cabinet::State {
-        disks: state.disks,
-        blocks: state.blocks,
-        online: state.reach,
-        current: state.current,
-        labels: state.labels.map(|label| cabinet::Label {
-            committed: label.committed,
-            tentative: label.tentative,
-            dirty: label.dirty,
-        }),
-    }
-}
-
 fn plain_answer(answer: cabinet::Answer) -> plain::Answer {
-    let state = answer.state;
     plain::Answer {
-        result: answer.outcome().err().map_or(0, cabinet::Refusal::number),
+        result: answer.outcome().map_or_else(cabinet::Refusal::number, |()| 0),
         stores: answer.stores,
-        state: plain::State {
-            disks: state.disks,
-            blocks: state.blocks,
-            reach: state.online,
-            current: state.current,
-            labels: state.labels.map(|label| plain::Label {
-                committed: label.committed,
-                tentative: label.tentative,
-                dirty: label.dirty,
-            }),
-        },
+        state: from_product(answer.state),
     }
 }
 

@@ -7,7 +7,7 @@ mod proved;
 
 pub use oracle::Reference;
 pub use plain::Plain;
-pub use proved::Proved;
+pub use proved::{from_product, to_product, Proved};
 
 use crate::case::Case;
 use reference::plain::State;

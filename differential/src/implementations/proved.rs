@@ -42,7 +42,7 @@ impl Implementation for Proved {
 }
 
 /// The state in the product's form.
-fn to_product(state: State) -> cabinet::State {
+pub fn to_product(state: State) -> cabinet::State {
     cabinet::State {
         disks: state.disks,
         blocks: state.blocks,
@@ -57,7 +57,7 @@ fn to_product(state: State) -> cabinet::State {
 }
 
 /// The state from the product's form.
-fn from_product(state: cabinet::State) -> State {
+pub fn from_product(state: cabinet::State) -> State {
     State {
         disks: state.disks,
         blocks: state.blocks,
