@@ -12,7 +12,7 @@ use Rattle.sets.specs.Sets.{has, below, size, members}
 use Rattle.sets.proofs.Tests.{Test, passes, fails, test, clash, and-parts, or-either, implied, implies, same-or-not, same-test}
 use Rattle.sets.proofs.Membership.{has-empty}
 use Rattle.sets.proofs.Operations.{has-union}
-use Rattle.sets.proofs.Bounds.{below-pow, below-members, below-empty, below-union}
+use Rattle.sets.proofs.Bounds.{below-pow, below-members}
 use Rattle.sets.proofs.Cardinality.{size-members}
 use Rattle.protocol.specs.Loops.{ascending, forEach, allBelow, someBelow, every, some, unionBelow}
 
@@ -102,20 +102,6 @@ pub has-union-below : (f : ℕ → ℕ) (x n : ℕ) → has (unionBelow n f) x �
 unfolding unionBelow someBelow
 has-union-below f x zero = has-empty x
 has-union-below f x (suc n) = has-union (unionBelow n f) (f n) x ∙ rw (has-union-below f x n)
-
--- a union names only disks below n where each of its sets does
-module _ (f : ℕ → ℕ) (n : ℕ) where
-  pub union-at : (k : ℕ) → below (unionBelow k f) n ≡ true → (d : ℕ) → d < k → below (f d) n ≡ true
-  unfolding unionBelow
-  union-at zero h d l = absurd (omega arith)
-  union-at (suc k) h d l =
-      let (first, last) = below-union (unionBelow k f) (f k) n .0 h in
-      or-last (λ e. below (f e) n ≡ true) k d l (union-at k first d) last
-
-  pub union-of : (k : ℕ) → ((d : ℕ) → d < k → below (f d) n ≡ true) → below (unionBelow k f) n ≡ true
-  unfolding unionBelow
-  union-of zero h = below-empty n
-  union-of (suc k) h = below-union (unionBelow k f) (f k) n .1 (union-of k (λ d l. h d (omega arith)), h k (omega arith))
 
 -- ---- what holds of each element
 

@@ -1,9 +1,9 @@
 -- The clauses as the code tests them say what the definition does. Assumes nothing.
 use mathlib.Core.Path.{_≡_, refl}
 use mathlib.Core.Logic.{_⊎_, inl, inr, _↔_}
-use mathlib.Core.Bool.{true}
+use mathlib.Core.Bool.{true, false}
 use mathlib.Core.List.{List}
-use Prim.Native.Nat.{ℕ, zero, _≤_, _<_}
+use Prim.Native.Nat.{ℕ, zero, suc, _≤_, _<_}
 use native.Mathlib.Decide.{decLt}
 use native.Mathlib.Omega.{arith}
 use lib.Dec.{eqb}
@@ -17,48 +17,118 @@ use Rattle.protocol.specs.declared.Power.{Power}
 use Rattle.protocol.specs.declared.Power.the-variants.{Stopped, Running}
 use Rattle.protocol.specs.declared.State.{State}
 use Rattle.protocol.specs.Geometry.{mostDisks, regions}
-use Rattle.protocol.specs.Loops.{allBelow}
 use Rattle.protocol.specs.States.{blank, labelAt, currentOf}
 use Rattle.protocol.specs.Soundness.{Sound, InRange, FitSet, FitLabel, FitPower, inRange, sound}
-use Rattle.protocol.proofs.Loops.{all-at, all-of, union-at, union-of}
+use Rattle.protocol.proofs.Loops.{or-last}
 use Rattle.protocol.proofs.Soundness.{in-range, own-disk, is-blank, test-agrees}
-use Rattle.soundness.specs.Clauses.{namedBelow, dirtyBelow, ownDisk, fitAlone, filled, soundByClauses}
+use Rattle.soundness.specs.declared.Seen.{Seen}
+use Rattle.soundness.specs.Clauses.{ownDisk, look, lookBelow, filled, soundSeeing, soundByClauses}
 
 -- ---- one label
 
-record Alone (n g d : ℕ) (l : Label) : Type 0 where
+record Alone (n g regions d : ℕ) (l : Label) : Type 0 where
   committed : (l .committed ≡ 0) ⊎ (has (l .committed) d ≡ true)
   tentative : (l .tentative ≡ 0) ⊎ (has (l .tentative) d ≡ true)
   rest : n ≤ d → l ≡ blank
   member : has g d ≡ true → (l .committed ≡ g) × (l .tentative ≡ 0)
+  -- of others below n
+  known : has g d ≡ false → below (union (l .committed) (l .tentative)) n ≡ true
+  dirty : below (l .dirty) regions ≡ true
 
-module _ (n g d : ℕ) (l : Label) where
-  -- a member is below n, as G is
-  alone : (has g d ≡ true → d < n) → fitAlone n g d l ≡ true → Alone n g d l
-  unfolding fitAlone ownDisk
-  alone known e = go (test (has g d)) (decLt d n)
+-- ---- what was seen of labels
+
+record Good (n regions : ℕ) (seen : Seen) : Type 0 where
+  fit : seen .fit ≡ true
+  named : below (seen .named) n ≡ true
+  dirty : below (seen .dirty) regions ≡ true
+
+-- one more label; a member is below n, as G is
+module _ (n g regions d : ℕ) (l : Label) (inside : has g d ≡ true → d < n) (seen : Seen) where
+  one-more : Good n regions (look n g d l seen) → Good n regions seen × Alone n g regions d l
+  unfolding look ownDisk
+  one-more h = go (test (has g d)) (decLt d n)
     where
-      go : Test (has g d) → Dec (d < n) → Alone n g d l
+      go : Test (has g d) → Dec (d < n) → Good n regions seen × Alone n g regions d l
       go (passes m) _ =
-          let (same, none) = and-parts (eqb (l .committed) g) (eqb (l .tentative) 0) (rw m at e) in
+          let now = rw m at h in
+          let (fit, e) = and-parts (seen .fit) _ (now .fit) in
+          let (same, none) = and-parts (eqb (l .committed) g) (eqb (l .tentative) 0) e in
+          let (before, here) = below-union (seen .dirty) (l .dirty) regions .0 (now .dirty) in
           let c = eqb-true (l .committed) g same in
-          let t = eqb-true (l .tentative) 0 none in
-          record { committed = inr (rw c m); tentative = inl t; rest = λ h. absurd (omega (arith, known m)); member = λ _. (c, t) }
+          let t = eqb-true (l .tentative) 0 none in (
+            record { fit = fit; named = now .named; dirty = before },
+            record {
+              committed = inr (rw c m);
+              tentative = inl t;
+              rest = λ b. absurd (omega (arith, inside m));
+              member = λ _. (c, t);
+              known = λ e. clash m e;
+              dirty = here;
+            },
+          )
       go (fails m) (yes p) =
-          let (c, t) = and-parts (ownDisk d (l .committed)) (ownDisk d (l .tentative)) (rw (m, lt-ltb d n p) at e) in
-          record { committed = own-disk d _ .0 c; tentative = own-disk d _ .0 t; rest = λ h. absurd (omega arith); member = λ h. clash h m }
+          let now = rw (m, lt-ltb d n p) at h in
+          let (fit, e) = and-parts (seen .fit) _ (now .fit) in
+          let (c, t) = and-parts (ownDisk d (l .committed)) (ownDisk d (l .tentative)) e in
+          let (before, here) = below-union (seen .dirty) (l .dirty) regions .0 (now .dirty) in
+          let (others, known) = below-union (seen .named) (union (l .committed) (l .tentative)) n .0 (now .named) in (
+            record { fit = fit; named = others; dirty = before },
+            record {
+              committed = own-disk d _ .0 c;
+              tentative = own-disk d _ .0 t;
+              rest = λ b. absurd (omega arith);
+              member = λ e. clash e m;
+              known = λ _. known;
+              dirty = here;
+            },
+          )
       go (fails m) (no q) =
-          let zero = is-blank l .0 (rw (m, le-ltb d n (omega arith)) at e) in
-          record { committed = rw zero (inl refl); tentative = rw zero (inl refl); rest = λ h. zero; member = λ h. clash h m }
+          let now = rw (m, le-ltb d n (omega arith)) at h in
+          let (fit, e) = and-parts (seen .fit) _ (now .fit) in
+          let zero = is-blank l .0 e in (
+            record { fit = fit; named = now .named; dirty = now .dirty },
+            record {
+              committed = rw zero (inl refl);
+              tentative = rw zero (inl refl);
+              rest = λ b. zero;
+              member = λ e. clash e m;
+              known = λ _. rw zero (below-union 0 0 n .1 (below-empty n, below-empty n));
+              dirty = rw zero (below-empty regions);
+            },
+          )
 
-  is-alone : Alone n g d l → fitAlone n g d l ≡ true
-  unfolding fitAlone ownDisk
-  is-alone h = go (test (has g d)) (decLt d n)
+  with-one : Good n regions seen → Alone n g regions d l → Good n regions (look n g d l seen)
+  unfolding look ownDisk
+  with-one h a = go (test (has g d)) (decLt d n)
     where
-      go : Test (has g d) → Dec (d < n) → fitAlone n g d l ≡ true
-      go (passes m) _ = rw (m, eq-eqb _ _ (h .member m .0), eq-eqb _ _ (h .member m .1))
-      go (fails m) (yes p) = rw (m, lt-ltb d n p, own-disk d (l .committed) .1 (h .committed), own-disk d (l .tentative) .1 (h .tentative))
-      go (fails m) (no q) = rw (m, le-ltb d n (omega arith)) (is-blank l .1 (h .rest (omega arith)))
+      dirty : below (union (seen .dirty) (l .dirty)) regions ≡ true
+      dirty = below-union (seen .dirty) (l .dirty) regions .1 (h .dirty, a .dirty)
+
+      go : Test (has g d) → Dec (d < n) → Good n regions (look n g d l seen)
+      go (passes m) _ =
+          rw m (record { fit = rw (h .fit, eq-eqb _ _ (a .member m .0), eq-eqb _ _ (a .member m .1)); named = h .named; dirty = dirty })
+      go (fails m) (yes p) =
+          rw (m, lt-ltb d n p) (record {
+            fit = rw (h .fit, own-disk d (l .committed) .1 (a .committed), own-disk d (l .tentative) .1 (a .tentative));
+            named = below-union (seen .named) (union (l .committed) (l .tentative)) n .1 (h .named, a .known m);
+            dirty = dirty;
+          })
+      go (fails m) (no q) =
+          rw (m, le-ltb d n (omega arith)) (record { fit = rw (h .fit) (is-blank l .1 (a .rest (omega arith))); named = h .named; dirty = h .dirty })
+
+-- all of them
+module _ (n g regions : ℕ) (labels : List Label) (inside : (d : ℕ) → has g d ≡ true → d < n) where
+  all-good : (k : ℕ) → Good n regions (lookBelow n g labels k) → (d : ℕ) → d < k → Alone n g regions d (labelAt labels d)
+  unfolding lookBelow
+  all-good zero h d l = absurd (omega arith)
+  all-good (suc k) h d l =
+      let (before, last) = one-more n g regions k (labelAt labels k) (inside k) _ h in
+      or-last (λ e. Alone n g regions e (labelAt labels e)) k d l (all-good k before d) last
+
+  good-all : (k : ℕ) → ((d : ℕ) → d < k → Alone n g regions d (labelAt labels d)) → Good n regions (lookBelow n g labels k)
+  unfolding lookBelow
+  good-all zero h = record { fit = refl; named = below-empty n; dirty = below-empty regions }
+  good-all (suc k) h = with-one n g regions k (labelAt labels k) (inside k) _ (good-all k (λ d l. h d (omega arith))) (h k (omega arith))
 
 -- a label all zero is fit for any disk
 blank-fit : (n b d : ℕ) → FitLabel n b d blank
@@ -86,42 +156,38 @@ module _ (n : ℕ) (labels : List Label) where
 -- ---- the whole state
 
 module _ (s : State) where
+  abbrev g : ℕ
+  g = currentOf (s .power)
+
+  abbrev seen : Seen
+  seen = lookBelow (s .disks) g (s .labels) mostDisks
+
   -- soundness, clause by clause
   record Clauses : Type 0 where
     range : InRange (s .disks) (s .blocks)
     online : below (s .online) (s .disks) ≡ true
-    current : below (currentOf (s .power)) (s .disks) ≡ true
-    named : below (namedBelow mostDisks (s .labels)) (s .disks) ≡ true
-    dirty : below (dirtyBelow mostDisks (s .labels)) (regions (s .blocks)) ≡ true
-    alone : (d : ℕ) → d < mostDisks → Alone (s .disks) (currentOf (s .power)) d (labelAt (s .labels) d)
+    current : below g (s .disks) ≡ true
+    good : Good (s .disks) (regions (s .blocks)) seen
     full : filled (s .power) ≡ true
 
   tested : (soundByClauses s ≡ true) ↔ Clauses
-  unfolding soundByClauses
+  unfolding soundByClauses soundSeeing
   tested = (
     λ e.
         let (range, e1) = and-parts (inRange (s .disks) (s .blocks)) _ e in
-        let (sets, e2) = and-parts (below (union (union (s .online) (currentOf (s .power))) (namedBelow mostDisks (s .labels))) (s .disks)) _ e1 in
-        let (dirty, e3) = and-parts (below (dirtyBelow mostDisks (s .labels)) (regions (s .blocks))) _ e2 in
-        let (each, full) = and-parts (allBelow mostDisks (λ d. fitAlone (s .disks) (currentOf (s .power)) d (labelAt (s .labels) d))) _ e3 in
-        let (both, named) = below-union (union (s .online) (currentOf (s .power))) _ (s .disks) .0 sets in
-        let (online, current) = below-union (s .online) (currentOf (s .power)) (s .disks) .0 both in
-        record {
-          range = in-range _ _ .0 range;
-          online = online;
-          current = current;
-          named = named;
-          dirty = dirty;
-          alone = λ d l. alone (s .disks) _ d _ (below-members (currentOf (s .power)) (s .disks) .0 current d) (all-at mostDisks _ each d l);
-          full = full;
-        },
+        let (sets, e2) = and-parts (below (union (union (s .online) g) (seen .named)) (s .disks)) _ e1 in
+        let (dirty, e3) = and-parts (below (seen .dirty) (regions (s .blocks))) _ e2 in
+        let (fit, full) = and-parts (seen .fit) _ e3 in
+        let (both, named) = below-union (union (s .online) g) _ (s .disks) .0 sets in
+        let (online, current) = below-union (s .online) g (s .disks) .0 both in
+        record { range = in-range _ _ .0 range; online = online; current = current; good = record { fit = fit; named = named; dirty = dirty }; full = full },
     λ h.
-        let both = below-union (s .online) (currentOf (s .power)) (s .disks) .1 (h .online, h .current) in
+        let both = below-union (s .online) g (s .disks) .1 (h .online, h .current) in
         rw (
           in-range _ _ .1 (h .range),
-          below-union (union (s .online) (currentOf (s .power))) _ (s .disks) .1 (both, h .named),
-          h .dirty,
-          all-of mostDisks (λ d. fitAlone (s .disks) (currentOf (s .power)) d (labelAt (s .labels) d)) (λ d l. is-alone _ _ d _ (h .alone d l)),
+          below-union (union (s .online) g) (seen .named) (s .disks) .1 (both, h .good .named),
+          h .good .dirty,
+          h .good .fit,
           h .full,
         ),
   )
@@ -131,20 +197,25 @@ module _ (s : State) where
   from-clauses h = record {
     range = h .range;
     online = h .online;
-    labels = record { each = each; rest = λ d g l. h .alone d l .rest g };
-    power = fit-power (s .disks) (s .labels) (s .power) (h .range .disks) (h .current) (h .full) (λ d l. h .alone d l .member);
+    labels = record { each = each; rest = λ d b l. alone d l .rest b };
+    power = fit-power (s .disks) (s .labels) (s .power) (h .range .disks) (h .current) (h .full) (λ d l. alone d l .member);
   }
     where
+      alone : (d : ℕ) → d < mostDisks → Alone (s .disks) g (regions (s .blocks)) d (labelAt (s .labels) d)
+      alone = all-good (s .disks) g (regions (s .blocks)) (s .labels) (below-members g (s .disks) .0 (h .current)) mostDisks (h .good)
+
       each : (d : ℕ) → d < s .disks → FitLabel (s .disks) (s .blocks) d (labelAt (s .labels) d)
       each d l =
-          let in-array : d < mostDisks = omega (arith, h .range .disks) in
-          let own = h .alone d in-array in
-          let (committed, tentative) = below-union _ _ (s .disks) .0 (union-at _ (s .disks) mostDisks (h .named) d in-array) in
-          record {
-            committed = record { known = committed; own = own .committed };
-            tentative = record { known = tentative; own = own .tentative };
-            dirty = union-at _ (regions (s .blocks)) mostDisks (h .dirty) d in-array;
-          }
+          let own = alone d (omega (arith, h .range .disks)) in
+          let (c, t) = known own (test (has g d)) in
+          record { committed = record { known = c; own = own .committed }; tentative = record { known = t; own = own .tentative }; dirty = own .dirty }
+        where
+          label : Label
+          label = labelAt (s .labels) d
+
+          known : Alone (s .disks) g (regions (s .blocks)) d label → Test (has g d) → (below (label .committed) (s .disks) ≡ true) × (below (label .tentative) (s .disks) ≡ true)
+          known own (passes m) = (rw (own .member m .0) (h .current), rw (own .member m .1) (below-empty (s .disks)))
+          known own (fails m) = below-union (label .committed) (label .tentative) (s .disks) .0 (own .known m)
 
   to-clauses : Sound s → Clauses
   unfolding Agree
@@ -154,9 +225,15 @@ module _ (s : State) where
         range = h .range;
         online = h .online;
         current = current;
-        named = union-of _ (s .disks) mostDisks (λ d l. below-union _ _ (s .disks) .1 (fit d l .committed .known, fit d l .tentative .known));
-        dirty = union-of _ (regions (s .blocks)) mostDisks (λ d l. fit d l .dirty);
-        alone = λ d l. record { committed = fit d l .committed .own; tentative = fit d l .tentative .own; rest = λ g. h .labels .rest d g l; member = members d };
+        good =
+            good-all (s .disks) g (regions (s .blocks)) (s .labels) (below-members g (s .disks) .0 current) mostDisks (λ d l. record {
+              committed = fit d l .committed .own;
+              tentative = fit d l .tentative .own;
+              rest = λ b. h .labels .rest d b l;
+              member = members d;
+              known = λ _. below-union _ _ (s .disks) .1 (fit d l .committed .known, fit d l .tentative .known);
+              dirty = fit d l .dirty;
+            });
         full = full;
       }
     where

@@ -1,11 +1,9 @@
 // "A state is sound when", clause by clause. The sets that must name only disks below n are tested together, as one union, and
-// each loop goes over all eight labels, so that compiled code knows the disk at each turn: every call begins with this test.
+// the loop goes over all eight labels, so that compiled code knows the disk at each turn: every call begins with this test.
 ghost use mathlib.Core.Path.{_≡_};
 ghost use Rattle.protocol.specs.Geometry.{mostDisks};
-ghost use Rattle.protocol.specs.Loops.{allBelow};
-ghost use Rattle.protocol.specs.States.{labelAt};
 ghost use Rattle.protocol.specs.Soundness.{inRange, isBlank, sound};
-ghost use Rattle.soundness.specs.Clauses.{namedBelow, dirtyBelow, ownDisk, fitAlone, filled};
+ghost use Rattle.soundness.specs.Clauses.{ownDisk, look, lookBelow, filled};
 use label::Label;
 use protocol::Power;
 use protocol::State;
@@ -22,34 +20,6 @@ fn in_range(n: usize, b: usize) -> bool
     (1 <= n) & ((n <= DISKS) & ((1 <= b) & (b <= MOST_BLOCKS)))
 }
 
-// The disks that "every C and every T" name.
-fn named(labels: [Label; DISKS]) -> Mask
-    ensures { λ r. ⌜ r ≡ namedBelow mostDisks labels ⌝ }
-{
-    let mut set = 0;
-    let mut d = 0;
-    while d < DISKS {
-        let l = labels[d];
-        set = sets::union(set, sets::union(l.committed, l.tentative));
-        d += 1;
-    }
-    set
-}
-
-// The regions that are dirty on any disk.
-fn dirty(labels: [Label; DISKS]) -> Mask
-    ensures { λ r. ⌜ r ≡ dirtyBelow mostDisks labels ⌝ }
-{
-    let mut set = 0;
-    let mut d = 0;
-    while d < DISKS {
-        let l = labels[d];
-        set = sets::union(set, l.dirty);
-        d += 1;
-    }
-    set
-}
-
 // "a C or T that is not 0 names its own disk"
 fn own_disk(d: usize, set: Mask) -> bool
     ensures { λ r. ⌜ r ≡ ownDisk d set ⌝ }
@@ -63,30 +33,54 @@ fn is_blank(l: Label) -> bool
     (l.committed == 0) & ((l.tentative == 0) & (l.dirty == 0))
 }
 
-// The label of disk d: of a member "C = G and T = 0", which names the disk as G does; of another disk below n what its own
-// sets say; "labels from n up are all zero".
-fn fit_alone(n: usize, g: Mask, d: usize, l: Label) -> bool
-    ensures { λ r. ⌜ r ≡ fitAlone n g d l ⌝ }
-{
-    if sets::has(g, d) {
-        return (l.committed == g) & (l.tentative == 0);
-    }
-    if d < n {
-        return own_disk(d, l.committed) & own_disk(d, l.tentative);
-    }
-    is_blank(l)
+// What some labels say: whether each is fit by itself, the disks that their sets name, but for members, whose sets are G and
+// none, and the regions that are dirty.
+struct Seen {
+    fit: bool,
+    named: Mask,
+    dirty: u8,
 }
 
-fn each_fit(n: usize, g: Mask, labels: [Label; DISKS]) -> bool
-    ensures { λ r. ⌜ r ≡ allBelow mostDisks (λ d. fitAlone n g d (labelAt labels d)) ⌝ }
+// The label of disk d, beside those that were seen: of a member "C = G and T = 0", of another disk below n what its own sets
+// say; "labels from n up are all zero".
+fn look(seen: Seen, n: usize, g: Mask, d: usize, l: Label) -> Seen
+    ensures { λ r. ⌜ r ≡ look n g d l seen ⌝ }
 {
-    let mut fit = true;
+    if sets::has(g, d) {
+        return Seen {
+            fit: seen.fit & ((l.committed == g) & (l.tentative == 0)),
+            named: seen.named,
+            dirty: sets::union(seen.dirty, l.dirty),
+        };
+    }
+    if d < n {
+        return Seen {
+            fit: seen.fit & (own_disk(d, l.committed) & own_disk(d, l.tentative)),
+            named: sets::union(seen.named, sets::union(l.committed, l.tentative)),
+            dirty: sets::union(seen.dirty, l.dirty),
+        };
+    }
+    Seen {
+        fit: seen.fit & is_blank(l),
+        named: seen.named,
+        dirty: seen.dirty,
+    }
+}
+
+fn look_at_all(n: usize, g: Mask, labels: [Label; DISKS]) -> Seen
+    ensures { λ r. ⌜ r ≡ lookBelow n g labels mostDisks ⌝ }
+{
+    let mut seen = Seen {
+        fit: true,
+        named: 0,
+        dirty: 0,
+    };
     let mut d = 0;
     while d < DISKS {
-        fit = fit & fit_alone(n, g, d, labels[d]);
+        seen = look(seen, n, g, d, labels[d]);
         d += 1;
     }
-    fit
+    seen
 }
 
 // "when running, G is not empty"
@@ -107,8 +101,9 @@ pub fn sound(s: State) -> bool
     let labels = s.labels;
     let power = s.power;
     let g = current(power);
-    let all = sets::union(sets::union(s.online, g), named(labels));
-    let regions_known = sets::below(dirty(labels), regions(b));
-    let alone = each_fit(n, g, labels);
-    in_range(n, b) & (sets::below(all, n) & (regions_known & (alone & filled(power))))
+    let seen = look_at_all(n, g, labels);
+    let named = sets::union(sets::union(s.online, g), seen.named);
+    let known = sets::below(named, n);
+    let regions_known = sets::below(seen.dirty, regions(b));
+    in_range(n, b) & (known & (regions_known & (seen.fit & filled(power))))
 }
