@@ -7,18 +7,19 @@ use reference::plain;
 use std::hint::black_box;
 use std::time::Duration;
 
-/// The calls of a side by the product's names. States and answers are its own, so that no conversion is timed.
+/// The calls of a side by the product's names. States and answers are its own, so that no conversion is timed. A state
+/// lies in memory, as a caller keeps it, and each side takes it from there in its own way.
 pub struct Side<S, A> {
     format: fn(usize, usize, &mut [u8]) -> A,
-    read: fn(S, &[u8], usize, &mut [u8]) -> A,
-    write: fn(S, &mut [u8], usize, &[u8], u16) -> A,
-    join: fn(S, &mut [u8], usize, u16) -> A,
-    clean: fn(S, u16) -> A,
-    restart: fn(S, &mut [u8], u16) -> A,
-    detach: fn(S, usize) -> A,
-    attach: fn(S, usize) -> A,
-    power_off: fn(S) -> A,
-    save: fn(S, &mut [u8]) -> A,
+    read: fn(&S, &[u8], usize, &mut [u8]) -> A,
+    write: fn(&S, &mut [u8], usize, &[u8], u16) -> A,
+    join: fn(&S, &mut [u8], usize, u16) -> A,
+    clean: fn(&S, u16) -> A,
+    restart: fn(&S, &mut [u8], u16) -> A,
+    detach: fn(&S, usize) -> A,
+    attach: fn(&S, usize) -> A,
+    power_off: fn(&S) -> A,
+    save: fn(&S, &mut [u8]) -> A,
     assemble: fn(usize, usize, u8, &[u8]) -> A,
     state: fn(plain::State) -> S,
     answer: fn(A) -> plain::Answer,
@@ -27,15 +28,15 @@ pub struct Side<S, A> {
 /// The proved product.
 pub const PROVED: Side<cabinet::State, cabinet::Answer> = Side {
     format: cabinet::State::format,
-    read: cabinet::State::read,
-    write: cabinet::State::write,
-    join: cabinet::State::join,
-    clean: cabinet::State::clean,
-    restart: cabinet::State::restart,
-    detach: cabinet::State::detach,
-    attach: cabinet::State::attach,
-    power_off: cabinet::State::power_off,
-    save: cabinet::State::save,
+    read: |state, area, block, output| state.read(area, block, output),
+    write: |state, area, block, data, supply| state.write(area, block, data, supply),
+    join: |state, area, disk, supply| state.join(area, disk, supply),
+    clean: |state, supply| state.clean(supply),
+    restart: |state, area, supply| state.restart(area, supply),
+    detach: |state, disk| state.detach(disk),
+    attach: |state, disk| state.attach(disk),
+    power_off: |state| state.power_off(),
+    save: |state, slots| state.save(slots),
     assemble: cabinet::State::assemble,
     state: to_product,
     answer: plain_answer,
@@ -44,15 +45,15 @@ pub const PROVED: Side<cabinet::State, cabinet::Answer> = Side {
 /// Plain Rust.
 pub const PLAIN: Side<plain::State, plain::Answer> = Side {
     format: plain::fresh,
-    read: plain::read,
-    write: plain::write,
-    join: plain::join,
-    clean: plain::quiet,
-    restart: plain::restart,
-    detach: plain::lose,
-    attach: plain::give_back,
-    power_off: plain::cut,
-    save: plain::save,
+    read: |&state, area, block, output| plain::read(state, area, block, output),
+    write: |&state, area, block, data, supply| plain::write(state, area, block, data, supply),
+    join: |&state, area, disk, supply| plain::join(state, area, disk, supply),
+    clean: |&state, supply| plain::quiet(state, supply),
+    restart: |&state, area, supply| plain::restart(state, area, supply),
+    detach: |&state, disk| plain::lose(state, disk),
+    attach: |&state, disk| plain::give_back(state, disk),
+    power_off: |&state| plain::cut(state),
+    save: |&state, slots| plain::save(state, slots),
     assemble: plain::assemble,
     state: |state| state,
     answer: |answer| answer,
@@ -66,13 +67,13 @@ fn plain_answer(answer: cabinet::Answer) -> plain::Answer {
     }
 }
 
-impl<S: Copy, A> Side<S, A> {
+impl<S, A> Side<S, A> {
     /// Makes the row's call so many times, each on the row's state, and gives the time of all and the last answer. The
     /// calls go through pointers that the compiler cannot see through, so that none is inlined into the loop.
     pub fn run(&self, row: &Row, buffers: &mut Buffers, calls: usize) -> (Duration, plain::Answer) {
         let side = black_box(self);
         let state = (side.state)(row.state);
-        let state = || black_box(state);
+        let state = || black_box(&state);
         let (disk, block, supply) = (|| black_box(DISK), || black_box(BLOCK), || black_box(SUPPLY));
         let (disks, blocks) = (|| black_box(DISKS), || black_box(BLOCKS));
         let (area, data, slots) = (&mut buffers.area[..], &mut buffers.block[..], &mut buffers.slots[..]);

@@ -43,11 +43,14 @@ unsafe extern "C" {
 /// The calls. None asks anything of its caller: each takes whatever it is given, and refuses what does not fit by the
 /// first of its [refusals](crate::Refusal) whose condition holds, in the order given here. `budget` is the number of
 /// stores that the power lasts for (the paper's supply).
+///
+/// They are inlined, so that a state is copied once on its way to the library.
 impl State {
     /// A new cabinet (the paper's fresh): all disks in reach and current, no block dirty, the area all zero.
     ///
     /// Refusals: 4 the number of disks, 5 of blocks, 2 the area's length. Refused, it yields the default state and
     /// leaves the area.
+    #[inline]
     pub fn format(disks: usize, blocks: usize, area: &mut [u8]) -> Answer {
         // SAFETY: as the module says.
         unsafe { cabinet_format(disks, blocks, area.as_mut_ptr(), area.len()) }
@@ -57,6 +60,7 @@ impl State {
     ///
     /// Refusals: 1 not sound, 2 the area's length, 3 the output's length, 6 stopped, 9 no such block, 12 no current
     /// disk in reach.
+    #[inline]
     pub fn read(self, area: &[u8], block: usize, output: &mut [u8]) -> Answer {
         let (to, length) = (output.as_mut_ptr(), output.len());
         // SAFETY: as the module says.
@@ -68,6 +72,7 @@ impl State {
     ///
     /// Refusals: 1 not sound, 2 the area's length, 3 the data's length, 6 stopped, 9 no such block, 12 no current disk
     /// in reach, 15 the power lost.
+    #[inline]
     pub fn write(self, area: &mut [u8], block: usize, data: &[u8], budget: u16) -> Answer {
         let (from, length) = (data.as_ptr(), data.len());
         // SAFETY: as the module says.
@@ -79,6 +84,7 @@ impl State {
     ///
     /// Refusals: 1 not sound, 2 the area's length, 6 stopped, 8 no such disk, 10 out of reach, 11 already current, 12
     /// no current disk in reach, 15 the power lost.
+    #[inline]
     pub fn join(self, area: &mut [u8], disk: usize, budget: u16) -> Answer {
         // SAFETY: as the module says.
         unsafe { cabinet_join(self, area.as_mut_ptr(), area.len(), disk, budget) }
@@ -87,6 +93,7 @@ impl State {
     /// Clears the dirty bits of the current disks in reach (the paper's quiet), so that a restart need not copy.
     ///
     /// Refusals: 1 not sound, 6 stopped, 12 no current disk in reach, 15 the power lost.
+    #[inline]
     pub fn clean(self, budget: u16) -> Answer {
         cabinet_clean(self, budget)
     }
@@ -95,6 +102,7 @@ impl State {
     /// with it.
     ///
     /// Refusals: 1 not sound, 2 the area's length, 7 running, 13 no set, 14 several sets, 15 the power lost.
+    #[inline]
     pub fn restart(self, area: &mut [u8], budget: u16) -> Answer {
         // SAFETY: as the module says.
         unsafe { cabinet_restart(self, area.as_mut_ptr(), area.len(), budget) }
@@ -103,6 +111,7 @@ impl State {
     /// The disk is pulled out (the paper's lose). Done, with no effect, for one that is out of reach.
     ///
     /// Refusals: 1 not sound, 8 no such disk.
+    #[inline]
     pub fn detach(self, disk: usize) -> Answer {
         cabinet_detach(self, disk)
     }
@@ -110,6 +119,7 @@ impl State {
     /// The disk is pushed back (the paper's return). It is current again if the cabinet has not moved on without it.
     ///
     /// Refusals: 1 not sound, 8 no such disk.
+    #[inline]
     pub fn attach(self, disk: usize) -> Answer {
         cabinet_attach(self, disk)
     }
@@ -117,6 +127,7 @@ impl State {
     /// The power goes (the paper's cut). Done, with no effect, for a stopped cabinet.
     ///
     /// Refusals: 1 not sound.
+    #[inline]
     pub fn power_off(self) -> Answer {
         cabinet_power_off(self)
     }
@@ -124,6 +135,7 @@ impl State {
     /// Writes the labels into `slots`, 5 bytes a disk. The number of blocks and the disks in reach are not in them.
     ///
     /// Refusals: 1 not sound, 2 the length of the slots.
+    #[inline]
     pub fn save(self, slots: &mut [u8]) -> Answer {
         // SAFETY: as the module says.
         unsafe { cabinet_save(self, slots.as_mut_ptr(), slots.len()) }
@@ -134,6 +146,7 @@ impl State {
     /// Refusals: 4 the number of disks, 5 of blocks, 2 the length of the slots, 8 a disk in reach that is not there;
     /// then slot by slot 17, 18, 19 and 20 of its label, 18 the label is another disk's, 22 a dirty bit without a
     /// region. Refused, it yields the default state.
+    #[inline]
     pub fn assemble(disks: usize, blocks: usize, online: u8, slots: &[u8]) -> Answer {
         // SAFETY: as the module says.
         unsafe { cabinet_assemble(disks, blocks, online, slots.as_ptr(), slots.len()) }
