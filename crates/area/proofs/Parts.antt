@@ -10,7 +10,7 @@ use lib.Seq.{paste, paste-suc, take-length, drop-length, drop-append-le, take-ap
 use borrow.Rule.Slice.PartMut.{midOf, putMid}
 use Rattle.label.specs.Writing.{splice}
 use Rattle.protocol.specs.Geometry.{blockSize, place, block, withBlock}
-use Rattle.area.specs.Parts.{InArea, InPart}
+use Rattle.area.specs.Parts.{InArea}
 
 -- ---- byte by byte
 
@@ -54,9 +54,6 @@ module _ (whole : List ℕ) (a n : ℕ) (fits : a + n ≤ length whole) where
       sym (take-append-le size (drop at (midOf a n whole)) (drop n (drop a whole)) l) ∙ rw (behind at (omega arith))
 
 -- ---- a block by itself
-
-pub alone : (part : List ℕ) → length part ≡ blockSize → InPart 0 part
-alone part full = record { known = omega arith; whole = omega arith }
 
 pub alone-loaded : (part : List ℕ) → length part ≡ blockSize → take blockSize (drop (0 * blockSize) part) ≡ part
 alone-loaded part full = ap (λ n. take n part) (sym full) ∙ take-length part

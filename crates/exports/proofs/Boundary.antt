@@ -1,8 +1,8 @@
 -- What a program outside sees of a call, from what the call yields; and that each state has one writing. Assumes nothing.
-use mathlib.Core.Path.{_≡_, refl, ap}
+use mathlib.Core.Path.{_≡_, refl}
 use mathlib.Core.Bool.{cond}
 use mathlib.Core.List.{List}
-use Prim.Native.Nat.{ℕ, _<_}
+use Prim.Native.Nat.{ℕ}
 use native.Mathlib.Omega.{arith}
 use lib.Dec.{eqb}
 use borrow.Author.Tests.{eqb-true, ne-eqb}
@@ -10,12 +10,10 @@ use Rattle.sets.proofs.Tests.{Test, passes, fails, test}
 use Rattle.label.specs.declared.Label.{Label}
 use Rattle.protocol.specs.declared.Power.{Power}
 use Rattle.protocol.specs.declared.Power.the-variants.{Stopped, Running}
-use Rattle.protocol.specs.declared.State.{State}
-use Rattle.protocol.specs.States.{currentOf}
-use Rattle.protocol.specs.Soundness.{FitPower, Sound}
 use Rattle.protocol.specs.declared.Answer.{Answer}
+use Rattle.protocol.specs.States.{currentOf}
+use Rattle.protocol.specs.Soundness.{FitPower}
 use Rattle.protocol.specs.Outcomes.{Outcome}
-use Rattle.exports.specs.declared.flat.FlatState.{FlatState}
 use Rattle.exports.specs.declared.flat.FlatAnswer.{FlatAnswer}
 use Rattle.exports.specs.Flat.{Seen, powerOf, opened, flat, flatAnswer, seen, OpenedIsWritten, SoundIsWritten}
 

@@ -24,11 +24,6 @@ or-last P n d h low last = go (same-or-not d n)
     go (inl e) = rw e last
     go (inr ne) = low (omega arith)
 
--- a number other than n is below n + 1 where it is below n
-pub not-last : (d n : ℕ) → d ≢ n → ltb d (suc n) ≡ ltb d n
-not-last d n other =
-    same-test (ltb d (suc n)) (ltb d n) (λ p. lt-ltb d n (omega (arith, ltb-true d (suc n) p))) (λ p. lt-ltb d (suc n) (omega (arith, ltb-true d n p)))
-
 -- ---- tests of all, and of some
 
 pub all-at : (n : ℕ) (p : ℕ → Bool) → allBelow n p ≡ true → (d : ℕ) → d < n → p d ≡ true

@@ -1,6 +1,6 @@
 -- `exports::flat::flat_answer` meets its contract. Assumes nothing.
 use borrow.Author.Needs.{needs}
-use Rattle.exports.specs.Flat.{flat, flatAnswer}
+use Rattle.exports.specs.Flat.{flatAnswer}
 use Rattle.exports.proofs.flat.flat_answer.Statement.{statement}
 use Rattle.exports.proofs.flat.flat_answer.Tie as tie
 

@@ -1,6 +1,6 @@
 -- `exports::flat::opened` meets its contract. Assumes nothing.
 use borrow.Author.Needs.{needs}
-use Rattle.exports.specs.Flat.{opened, flat}
+use Rattle.exports.specs.Flat.{opened}
 use Rattle.exports.proofs.flat.opened.Statement.{statement}
 use Rattle.exports.proofs.flat.opened.Tie as tie
 

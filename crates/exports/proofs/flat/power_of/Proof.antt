@@ -1,6 +1,6 @@
 -- `exports::flat::power_of` meets its contract. Assumes nothing.
 use borrow.Author.Tests.{ne-eqb}
-use Rattle.exports.specs.Flat.{powerOf, flat}
+use Rattle.exports.specs.Flat.{powerOf}
 use Rattle.exports.proofs.flat.power_of.Statement.{statement}
 use Rattle.exports.proofs.flat.power_of.Tie as tie
 
