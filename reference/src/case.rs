@@ -11,9 +11,9 @@
 //!                                                            -> ANSWER SUM(area) SUM(output)
 //! ```
 //!
-//! STATE is n b R P G C0 T0 D0 .. C7 T7 D7, where P is 0 for stopped (G is then 0) and 1 for running. ANSWER is refusal,
-//! stores, STATE. The calls are 0 read (k), 1 write (k, p), 2 join (disk k, p), 3 quiet (p), 4 restart (p), 5 lose
-//! (k), 6 return (k), 7 cut. Before a call, byte i of the area is (i + i / 64) % 256, byte i of the data is
+//! STATE is n b R P G C0 T0 D0 .. C7 T7 D7, where P is 0 for stopped (G is then 0) and 1 for running. ANSWER is
+//! refusal, stores, STATE. The calls are 0 read (k), 1 write (k, p), 2 join (disk k, p), 3 quiet (p), 4 restart (p), 5
+//! lose (k), 6 return (k), 7 cut. Before a call, byte i of the area is (i + i / 64) % 256, byte i of the data is
 //! (3 × i + 1) % 256, and each byte of an output or of slots is 170.
 
 use crate::cabinet::{self, Answer, Cabinet};

@@ -536,8 +536,8 @@ impl Table {
     }
 }
 
-/// Ways to break one clause of soundness of a running state of 2 to 6 disks and at most 12 blocks; where it can be, that
-/// clause alone.
+/// Ways to break one clause of soundness of a running state of 2 to 6 disks and at most 12 blocks; where it can be,
+/// that clause alone.
 const BREAKS: [fn(&mut State); 28] = [
     |s| {
         *s = State {

@@ -1,10 +1,10 @@
 //! A trial of a small cabinet in one number, for the explorer's set of visited states.
 //!
 //! No rule looks at data: blocks are only stored, copied and compared with the book. So the explorer writes blocks of
-//! zeros and of ones only, and two states are one if zeros and ones change places in all blocks and in the book at once.
-//! Each block is kept as its XOR with the book's block 0, and so are the book's other blocks. (An XOR with the book's
-//! own block for each k would lose more states, but also the difference between blocks: a read of another block would
-//! not be seen.)
+//! zeros and of ones only, and two states are one if zeros and ones change places in all blocks and in the book at
+//! once. Each block is kept as its XOR with the book's block 0, and so are the book's other blocks. (An XOR with the
+//! book's own block for each k would lose more states, but also the difference between blocks: a read of another block
+//! would not be seen.)
 
 use crate::sets::DiskSet;
 use crate::state::{Power, State, BLOCK};

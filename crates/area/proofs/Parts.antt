@@ -1,36 +1,15 @@
--- Bytes stored one after the other, and parts of the area. Assumes nothing.
+-- Parts of the area. Assumes nothing.
 use mathlib.Core.Path.{_≡_, sym, ap, _∙_}
 use mathlib.Core.List.{List, _++_, append-assoc, append-nil}
-use Prim.Native.Nat.{ℕ, _+_, _*_, _-_, _≤_, _<_}
+use Prim.Native.Nat.{ℕ, _+_, _*_, _-_, _≤_}
 use native.Mathlib.Nat.{zero-add, add-assoc}
-use native.Mathlib.Numerals.{add-one}
 use native.Mathlib.Omega.{arith}
-use lib.ListN.{length, take, drop, getD, set, length-take, length-drop, take-append-drop}
-use lib.Seq.{paste, paste-suc, take-length, drop-length, drop-append-le, take-append-le, take-add, drop-drop, take-take}
+use lib.ListN.{length, take, drop, length-take, length-drop, take-append-drop}
+use lib.Seq.{take-length, drop-length, drop-append-le, take-append-le, take-add, drop-drop, take-take}
 use borrow.Rule.Slice.PartMut.{midOf, putMid}
-use Rattle.label.specs.Writing.{splice}
+use Rattle.buffers.specs.Buffers.{splice}
 use Rattle.protocol.specs.Geometry.{blockSize, place, block, withBlock}
 use Rattle.area.specs.Parts.{InArea}
-
--- ---- byte by byte
-
--- a turn of a loop that stores the bytes of one list over those of another, from a place on
-pub store-turn : (old now new : List ℕ) (at i : ℕ) → at + i < length old → i < length new → now ≡ paste old at new i
-    → set now (at + i) (getD new i 0) ≡ paste old at new (i + 1)
-store-turn old now new at i h k e = rw (e, add-one) (paste-suc old at new i 0 h k)
-
--- and at its end all are stored
-pub store-end : (old now new : List ℕ) (at i : ℕ) → i ≡ length new → now ≡ paste old at new i → now ≡ splice at new old
-unfolding splice
-store-end old now new at i h e = e ∙ rw (h, take-length, append-assoc)
-
--- the same from the front
-pub fill-turn : (old now new : List ℕ) (i : ℕ) → i < length old → i < length new → now ≡ take i new ++ drop i old
-    → set now i (getD new i 0) ≡ take (i + 1) new ++ drop (i + 1) old
-fill-turn old now new i h k e = simp zero-add at (store-turn old now new 0 i (rw zero-add h) k (rw zero-add e))
-
-pub fill-end : (old now new : List ℕ) (i size : ℕ) → length old ≡ size → i ≡ size → now ≡ take i new ++ drop i old → now ≡ take size new
-fill-end old now new i size h k e = e ∙ rw (k, ← h, drop-length, append-nil)
 
 -- ---- n bytes from a on, as a part of the whole
 
@@ -42,10 +21,18 @@ module _ (whole : List ℕ) (a n : ℕ) (fits : a + n ≤ length whole) where
       sym (drop-append-le m (midOf a n whole) (drop n (drop a whole)) l) ∙ rw (take-append-drop, drop-drop)
 
   -- what is stored in the part is stored in the whole
-  stored : (at : ℕ) (new : List ℕ) → at + length new ≤ n → putMid a n whole (splice at new (midOf a n whole)) ≡ splice (a + at) new whole
+  stored : (at : ℕ) (new : List ℕ) → at + length new ≤ n
+      → putMid a n whole (splice at new (midOf a n whole)) ≡ splice (a + at) new whole
   unfolding splice
   stored at new h =
-      simp append-assoc (rw (behind (at + length new) h, take-take at n (drop a whole) (omega arith), ← append-assoc (take a whole), ← take-add, add-assoc))
+      simp append-assoc
+      (rw (
+        behind (at + length new) h,
+        take-take at n (drop a whole) (omega arith),
+        ← append-assoc (take a whole),
+        ← take-add,
+        add-assoc,
+      ))
 
   -- and what is read of the part, of the whole
   loaded : (at size : ℕ) → at + size ≤ n → take size (drop at (midOf a n whole)) ≡ take size (drop (a + at) whole)
@@ -58,13 +45,15 @@ module _ (whole : List ℕ) (a n : ℕ) (fits : a + n ≤ length whole) where
 pub alone-loaded : (part : List ℕ) → length part ≡ blockSize → take blockSize (drop (0 * blockSize) part) ≡ part
 alone-loaded part full = ap (λ n. take n part) (sym full) ∙ take-length part
 
-pub alone-stored : (part bytes : List ℕ) → length part ≡ blockSize → length bytes ≡ blockSize → splice (0 * blockSize) bytes part ≡ bytes
+pub alone-stored : (part bytes : List ℕ) → length part ≡ blockSize → length bytes ≡ blockSize
+    → splice (0 * blockSize) bytes part ≡ bytes
 unfolding splice
 alone-stored part bytes full fits = rw (zero-add, fits ∙ sym full, drop-length, append-nil)
 
 -- ---- block k in the part of disk d, from where that disk starts to where the next one does
 
-module _ (area : List ℕ) (b d k from to : ℕ) (h : InArea b d k area) (starts : from ≡ d * b * blockSize) (ends : to ≡ (d + 1) * b * blockSize) where
+module _ (area : List ℕ) (b d k from to : ℕ) (h : InArea b d k area) (starts : from ≡ d * b * blockSize)
+    (ends : to ≡ (d + 1) * b * blockSize) where
   size : to - from ≡ b * blockSize
   size = omega arith
 
@@ -72,11 +61,15 @@ module _ (area : List ℕ) (b d k from to : ℕ) (h : InArea b d k area) (starts
   unfolding place
   place-in = omega arith
 
-  pub disk-stores : (bytes last : List ℕ) → length bytes ≡ blockSize → last ≡ splice (k * blockSize) bytes (midOf from (to - from) area)
+  pub disk-stores : (bytes last : List ℕ) → length bytes ≡ blockSize
+      → last ≡ splice (k * blockSize) bytes (midOf from (to - from) area)
       → putMid from (to - from) area last ≡ withBlock b area d k bytes
   unfolding withBlock
-  disk-stores bytes last full e = rw (e, size, place-in) (stored area from (b * blockSize) (omega arith) (k * blockSize) bytes (omega arith))
+  disk-stores bytes last full e =
+      rw (e, size, place-in) (stored area from (b * blockSize) (omega arith) (k * blockSize) bytes (omega arith))
 
-  pub disk-loads : (output : List ℕ) → output ≡ take blockSize (drop (k * blockSize) (midOf from (to - from) area)) → output ≡ block b area d k
+  pub disk-loads : (output : List ℕ) → output ≡ take blockSize (drop (k * blockSize) (midOf from (to - from) area))
+      → output ≡ block b area d k
   unfolding block
-  disk-loads output e = e ∙ rw (size, place-in) (loaded area from (b * blockSize) (omega arith) (k * blockSize) blockSize (omega arith))
+  disk-loads output e =
+      e ∙ rw (size, place-in) (loaded area from (b * blockSize) (omega arith) (k * blockSize) blockSize (omega arith))

@@ -17,7 +17,8 @@ module _ (size n b : ℕ) where
   whole : size % 64 ≡ 0 → size / 64 % b ≡ 0 → size / 64 / b ≡ n → size ≡ n * b * 64
   whole p q r = let e = rw (q, r) at (div-add-mod (size / 64) b) in omega arith
 
-  pub some-blocks : 0 < b → (eqb (size % 64) 0 && (eqb (size / 64 % b) 0 && eqb (size / 64 / b) n)) ≡ eqb size (areaSize n b)
+  pub some-blocks : 0 < b
+      → (eqb (size % 64) 0 && (eqb (size / 64 % b) 0 && eqb (size / 64 / b) n)) ≡ eqb size (areaSize n b)
   unfolding areaSize
   some-blocks h =
       same-test _ _

@@ -1,10 +1,10 @@
-// Blocks in the disk area: the only code that computes where a block stands. A block on its way is held by value: a copy
-// from one lent buffer to another goes byte by byte, since compiled code must reckon that they overlap.
+// Blocks in the disk area: the only code that computes where a block stands. A block on its way is held by value: a
+// copy from one lent buffer to another goes byte by byte, since compiled code must reckon that they overlap.
 ghost use mathlib.Core.Path.{_≡_};
 ghost use Prim.Native.Nat.{_*_, _≤_, _<_};
 ghost use lib.Dec.{eqb};
-ghost use lib.ListN.{length, take, drop, replicate};
-ghost use Rattle.label.specs.Writing.{splice};
+ghost use lib.ListN.{length, take, drop};
+ghost use Rattle.buffers.specs.Buffers.{splice};
 ghost use Rattle.protocol.specs.Geometry.{mostDisks, mostBlocks, blockSize, areaSize, block, withBlock};
 ghost use Rattle.area.specs.Parts.{InArea, InPart};
 use protocol::geometry::BLOCK_SIZE;
@@ -81,17 +81,8 @@ pub fn to_slice(output: &mut [u8], bytes: [u8; BLOCK_SIZE])
     store_block(output, 0, bytes);
 }
 
-pub fn clear(area: &mut [u8])
-    ensures { λ _. ⌜ now (area .exit) ≡ replicate (length (now (area .entry))) 0 ⌝ }
-{
-    let mut i = 0;
-    while i < area.len() {
-        area[i] = 0;
-        i += 1;
-    }
-}
-
-// Whether a buffer of this size is the disk area of so many disks and blocks: of any numbers, whose product might overflow.
+// Whether a buffer of this size is the disk area of so many disks and blocks: of any numbers,
+// whose product might overflow.
 pub fn fits(disks: usize, blocks: usize, size: usize) -> bool
     ensures { λ r. ⌜ r ≡ eqb size (areaSize disks blocks) ⌝ }
 {

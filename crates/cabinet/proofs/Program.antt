@@ -7,33 +7,22 @@ use Rattle.protocol.specs.declared.Call.the-variants.{Write}
 use Rattle.protocol.specs.declared.State.{State}
 use Rattle.protocol.specs.Calls.{formatOutcome}
 use Rattle.protocol.specs.History.{Cabinet, perform, outcomeOf, cabinetOf, ran}
-use Rattle.protocol.specs.Reference.{carriedBy, afterWrites, started, recorded, recordedAll}
-use Rattle.protocol.specs.Demand3.{CallIn, program, result, Demand3}
+use Rattle.protocol.specs.Reference.{carriedBy, afterWrites}
+use Rattle.protocol.specs.Demand3.{CallIn, cabinetAfter, result, Demand3}
 use Rattle.protocol.specs.Claims.{refusalOf, contentsLeft, Counting}
-use Rattle.protocol.proofs.Histories.{ran-last}
-use Rattle.protocol.proofs.Invariant.{result-is, reference-is}
+use Rattle.protocol.proofs.History.{ran-last}
+use Rattle.protocol.proofs.Invariant.{contents-at-is}
 use Rattle.protocol.proofs.Demand3.{demand-3}
-use Rattle.protocol.proofs.ReadCalls.{reads-right}
+use Rattle.protocol.proofs.ReadsRight.{reads-right}
 use Rattle.protocol.proofs.WritesCount.{writes-count}
-use Rattle.protocol.proofs.SoundLists.{soundness-kept}
-use Rattle.cabinet.specs.Program.{Exchange, Returned, by-read, by-write, by-join, by-clean, by-restart, by-detach, by-attach, by-power-off, by-apply, Session, begun, followed, ExchangeIn, steps, Handed, referenceBefore, reference, yielded, SessionsAreHistories, ProgramMeetsDemand3}
-
--- each promise is the protocol's step
-returned-is : {s : State} {area : List ℕ} {x : Exchange} → Returned s area x → yielded x ≡ outcomeOf (x .given) (record { state = s; area = area })
-unfolding perform
-returned-is (by-read p) = p
-returned-is (by-write {output = o} p) = p o
-returned-is (by-join {output = o} p) = p o
-returned-is {area = a} (by-clean {output = o} p) = p a o
-returned-is (by-restart {output = o} p) = p o
-returned-is {area = a} (by-detach {output = o} p) = p a o
-returned-is {area = a} (by-attach {output = o} p) = p a o
-returned-is {area = a} (by-power-off {output = o} p) = p a o
-returned-is (by-apply p) = p
+use Rattle.protocol.proofs.SoundnessKept.{soundness-kept}
+use Rattle.cabinet.specs.Program.{Exchange, yielded, Session, begun, followed, ExchangeIn, callsOf, Handed}
+use Rattle.cabinet.specs.Program.{contentsBefore, contentsAt, SessionsAreHistories, ProgramMeetsDemand3}
 
 -- one call more
-one-more : (calls : List Exchange) (x : Exchange) (c : Cabinet) → ran (steps (calls ++ (x ∷ []))) c ≡ cabinetOf (outcomeOf (x .given) (ran (steps calls) c))
-one-more calls x c = rw (map-append (λ y. y .given) calls (x ∷ [])) (ran-last (steps calls) (x .given) c)
+one-more : (calls : List Exchange) (x : Exchange) (c : Cabinet)
+    → ran (callsOf (calls ++ (x ∷ []))) c ≡ cabinetOf (outcomeOf (x .given) (ran (callsOf calls) c))
+one-more calls x c = rw (map-append (λ y. y .given) calls (x ∷ [])) (ran-last (callsOf calls) (x .given) c)
 
 -- what stands in a list that is one longer is its last, or stood in it before
 module _ {A : Type 0} (x y : A) where
@@ -55,40 +44,50 @@ module _ {A : Type 0} (x y : A) where
       go (inr (later, p)) = inr (later, cc)
 
 module _ {n b : ℕ} {lent : List ℕ} where
-  format-done : {calls : List Exchange} {s : State} {area : List ℕ} → Session n b lent calls s area → formatOutcome lent [] n b .answer .refusal ≡ 0
+  format-done : {calls : List Exchange} {s : State} {area : List ℕ} → Session n b lent calls s area
+      → formatOutcome lent [] n b .answer .refusal ≡ 0
   format-done (begun p z) = sym (ap (λ o. o .answer .refusal) (p [])) ∙ z
-  format-done (followed session r) = format-done session
+  format-done (followed session x r) = format-done session
 
-  left-is : {calls : List Exchange} {s : State} {area : List ℕ} → Session n b lent calls s area → record { state = s; area = area } ≡ program n b lent (steps calls)
+  left-is : {calls : List Exchange} {s : State} {area : List ℕ} → Session n b lent calls s area
+      → record { state = s; area = area } ≡ cabinetAfter n b lent (callsOf calls)
   unfolding ran
   left-is (begun p z) = ap cabinetOf (p [])
-  left-is (followed {calls} {x = x} session r) = ap cabinetOf (returned-is r ∙ ap (outcomeOf (x .given)) (left-is session)) ∙ sym (one-more calls x _)
+  left-is (followed {calls} session x r) =
+      ap cabinetOf (r ∙ ap (outcomeOf (x .given)) (left-is session)) ∙ sym (one-more calls x _)
 
   -- the calls before any call of a session are a session
-  handed : {calls : List Exchange} {s : State} {area : List ℕ} → Session n b lent calls s area → (c : ExchangeIn calls) → Handed n b lent (c .before) (c .this)
+  handed : {calls : List Exchange} {s : State} {area : List ℕ} → Session n b lent calls s area → (c : ExchangeIn calls)
+      → Handed n b lent (c .before) (c .this)
   handed (begun p z) c = absurd (not-empty (c .this) (c .this) (c .before) (c .after) (c .here))
-  handed (followed {calls} {s} {area} {x} session r) c = go (λ d. handed session d) (last-or-earlier x (c .this) calls (c .before) (c .after) (c .here))
+  handed (followed {calls} {s} {area} session x r) c =
+      go (λ d. handed session d) (last-or-earlier x (c .this) calls (c .before) (c .after) (c .here))
     where
-      go : ((d : ExchangeIn calls) → Handed n b lent (d .before) (d .this)) → LastOrEarlier x (c .this) calls (c .before) → Handed n b lent (c .before) (c .this)
+      go : ((d : ExchangeIn calls) → Handed n b lent (d .before) (d .this))
+          → LastOrEarlier x (c .this) calls (c .before) → Handed n b lent (c .before) (c .this)
       go earlier (inl (p, q)) = record { state = s; area = area; session = rw p at session; returned = rw q at r }
       go earlier (inr (later, p)) = earlier (record { before = c .before; this = c .this; after = later; here = p })
 
-  yielded-is : {calls : List Exchange} {s : State} {area : List ℕ} → Session n b lent calls s area → (c : ExchangeIn calls)
-      → yielded (c .this) ≡ outcomeOf (c .this .given) (program n b lent (steps (c .before)))
-  yielded-is session c = let v = handed session c in returned-is (v .returned) ∙ ap (outcomeOf (c .this .given)) (left-is (v .session))
+  yielded-is : {calls : List Exchange} {s : State} {area : List ℕ} → Session n b lent calls s area
+      → (c : ExchangeIn calls)
+      → yielded (c .this) ≡ outcomeOf (c .this .given) (cabinetAfter n b lent (callsOf (c .before)))
+  yielded-is session c =
+      let v = handed session c in v .returned ∙ ap (outcomeOf (c .this .given)) (left-is (v .session))
 
 pub sessions-are-histories : SessionsAreHistories
-sessions-are-histories n b lent calls s area session = record { done = format-done session; cabinet = left-is session; results = yielded-is session }
+sessions-are-histories n b lent calls s area session =
+    record { done = format-done session; cabinet = left-is session; results = yielded-is session }
 
 -- the protocol's call, the last of the list up to it
-abbrev callOf : {calls : List Exchange} (c : ExchangeIn calls) → CallIn (steps (c .before) ++ (c .this .given ∷ []))
-callOf c = record { before = steps (c .before); this = c .this .given; after = []; here = refl }
+abbrev callOf : {calls : List Exchange} (c : ExchangeIn calls) → CallIn (callsOf (c .before) ++ (c .this .given ∷ []))
+callOf c = record { before = callsOf (c .before); this = c .this .given; after = []; here = refl }
 
-module _ {n b : ℕ} {lent : List ℕ} {calls : List Exchange} {s : State} {area : List ℕ} (session : Session n b lent calls s area) (c : ExchangeIn calls) where
+module _ {n b : ℕ} {lent : List ℕ} {calls : List Exchange} {s : State} {area : List ℕ}
+    (session : Session n b lent calls s area) (c : ExchangeIn calls) where
   done : formatOutcome lent [] n b .answer .refusal ≡ 0
   done = format-done session
 
-  demand : Demand3 n b lent (steps (c .before) ++ (c .this .given ∷ []))
+  demand : Demand3 n b lent (callsOf (c .before) ++ (c .this .given ∷ []))
   demand = demand-3 n b lent done _
 
   answer-is : c .this .answer ≡ result n b lent (callOf c) .answer
@@ -103,27 +102,38 @@ module _ {n b : ℕ} {lent : List ℕ} {calls : List Exchange} {s : State} {area
     output = c .this .given .output
 
     abbrev cabinet : Cabinet
-    cabinet = recordedAll (steps (c .before)) (started n b) .cabinet
+    cabinet = cabinetAfter n b lent (callsOf (c .before))
 
     refusal-is : c .this .answer .refusal ≡ refusalOf cabinet k budget bytes output
     unfolding perform
-    refusal-is = ap (λ o. o .answer .refusal) (yielded-is session c ∙ sym (result-is n b lent done (callOf c)) ∙ ap (λ call. perform call bytes output cabinet) is)
+    refusal-is = ap (λ o. o .answer .refusal) (yielded-is session c ∙ ap (λ call. perform call bytes output cabinet) is)
 
-    book-is : reference n b c ≡ contentsLeft cabinet k budget bytes output (referenceBefore n b c)
-    unfolding recorded
-    book-is = sym (reference-is n b lent done (callOf c)) ∙ ap (λ call. afterWrites (carriedBy call bytes cabinet) (referenceBefore n b c)) is
+    book-is : contentsAt n b c ≡ contentsLeft cabinet k budget bytes output (contentsBefore n b c)
+    book-is =
+        contents-at-is n b lent done (callOf c)
+        ∙ ap (λ call. afterWrites (carriedBy call bytes cabinet) (contentsBefore n b c)) is
 
-    counting : Counting cabinet k budget bytes output (referenceBefore n b c)
+    counting : Counting cabinet k budget bytes output (contentsBefore n b c)
     counting = writes-count _ k budget _ _ _
 
 pub program-meets-demand-3 : ProgramMeetsDemand3
 program-meets-demand-3 n b lent calls s area session = record {
   one-set = λ c budget is. rw (answer-is session c) (demand session c .one-set (callOf c) budget is);
-  right = λ c budget is. rw (answer-is session c, ap (λ o. o .area) (yielded-is session c)) (demand session c .right (callOf c) budget is);
-  finds = λ c budget is v. rw (answer-is session c, ap (λ w. w .state) (left-is (v .session))) (demand session c .finds (callOf c) budget is);
+  right =
+      λ c budget is. rw (answer-is session c, ap (λ o. o .area) (yielded-is session c))
+      (demand session c .right (callOf c) budget is);
+  finds =
+      λ c budget is v. rw (answer-is session c, ap (λ w. w .state) (left-is (v .session)))
+      (demand session c .finds (callOf c) budget is);
   each-handed = handed session;
-  reads-right = λ c k is. rw (answer-is session c, ap (λ o. o .output) (yielded-is session c)) (reads-right n b lent (done session c) _ (callOf c) k is);
-  acknowledged = λ c k budget is. rw (refusal-is session c k budget is, book-is session c k budget is) (counting session c k budget is .acknowledged);
-  refused = λ c k budget is. rw (refusal-is session c k budget is, book-is session c k budget is) (counting session c k budget is .refused);
+  reads-right =
+      λ c k is. rw (answer-is session c, ap (λ o. o .output) (yielded-is session c))
+      (reads-right n b lent (done session c) _ (callOf c) k is);
+  acknowledged =
+      λ c k budget is. rw (refusal-is session c k budget is, book-is session c k budget is)
+      (counting session c k budget is .acknowledged);
+  refused =
+      λ c k budget is. rw (refusal-is session c k budget is, book-is session c k budget is)
+      (counting session c k budget is .refused);
   stays-sound = λ c. rw (answer-is session c) (soundness-kept .in-lists n b lent (done session c) _ (callOf c));
 }

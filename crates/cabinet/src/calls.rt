@@ -1,22 +1,24 @@
 // A call of document 01's list as a value.
 ghost use mathlib.Core.Path.{_≡_};
+ghost use Rattle.protocol.specs.Outcomes.{yields};
 ghost use Rattle.protocol.specs.History.{perform};
-use admin::attach;
-use admin::detach;
-use admin::power_off;
+use membership::attach;
+use membership::detach;
+use membership::power_off;
 use protocol::Answer;
 use protocol::Call;
 use protocol::State;
 
 // Carries out the call. A buffer that it does not take, it leaves.
 pub fn apply(call: Call, s: State, area: &mut [u8], bytes: &[u8], output: &mut [u8]) -> Answer
-    ensures { λ r. ⌜ record { answer = r; area = now (area .exit); output = now (output .exit) } ≡ perform call (now (bytes .entry)) (now (output .entry)) (record { state = s; area = now (area .entry) }) ⌝ }
+    ensures { λ r. ⌜ yields r (now (area .exit)) (now (output .exit))
+        ≡ perform call (now (bytes .entry)) (now (output .entry)) (record { state = s; area = now (area .entry) }) ⌝ }
 {
     match call {
         Call::Read { block } => storage::read(s, area, block, output),
         Call::Write { block, budget } => storage::write(s, area, block, bytes, budget),
         Call::Join { disk, budget } => storage::join(s, area, disk, budget),
-        Call::Clean { budget } => recovery::clean(s, budget),
+        Call::Clean { budget } => storage::clean(s, budget),
         Call::Restart { budget } => recovery::restart(s, area, budget),
         Call::Detach { disk } => detach(s, disk),
         Call::Attach { disk } => attach(s, disk),

@@ -1,16 +1,17 @@
-// Document 01's calls, each for any state, buffers and numbers: fresh, lose, return and cut from the crate `admin`, those that go
-// to the disks from `storage`, the saved form from `slots`. Beside them `apply`, which takes a call as a value.
+// Document 01's calls, each for any state, buffers and numbers: fresh, lose, return and cut from the crate
+// `membership`, those of a running cabinet from `storage`, restart from `recovery`, the saved form from `slots`. Beside
+// them `apply`, which takes a call as a value.
 mod calls;
 
-pub use admin::attach;
-pub use admin::detach;
-pub use admin::format;
-pub use admin::power_off;
 pub use calls::apply;
-pub use recovery::clean;
+pub use membership::attach;
+pub use membership::detach;
+pub use membership::format;
+pub use membership::power_off;
 pub use recovery::restart;
 pub use slots::assemble;
 pub use slots::save;
+pub use storage::clean;
 pub use storage::join;
 pub use storage::read;
 pub use storage::write;

@@ -2,7 +2,7 @@
 // what it yields. The calls of the cabinet take more than the console can ask: any state, any buffers.
 ghost use Prim.Native.Nat.{_≤_};
 
-mod buffers;
+mod lent;
 mod printing;
 mod running;
 mod states;
@@ -29,12 +29,12 @@ fn run(numbers: &mut [usize; PLACES], buffer: &mut [u8]) {
     let mut place = 0;
     let mut more = true;
     // A loop needs a bound; no input has as many blocks.
-    let mut turns = u64::MAX;
-    while turns > 0 && more {
+    let mut reads = u64::MAX;
+    while reads > 0 && more {
         let n = io::read_full(STDIN_FILENO, buffer);
         place = feed(&buffer[0..n], place, numbers);
         more = 0 < n;
-        turns -= 1;
+        reads -= 1;
     }
 }
 

@@ -1,10 +1,10 @@
 // What each kind of case runs, on a buffer as long as its line asks. Each prints what it yields.
-use crate::buffers::AREA_SIZE;
-use crate::buffers::BLOCKS_SIZE;
-use crate::buffers::DATA;
-use crate::buffers::UNTOUCHED;
-use crate::buffers::fill;
-use crate::buffers::least;
+use crate::lent::AREA_SIZE;
+use crate::lent::BLOCKS_SIZE;
+use crate::lent::DATA;
+use crate::lent::UNTOUCHED;
+use crate::lent::fill;
+use crate::lent::least;
 use crate::printing::print;
 use crate::printing::print_answer;
 use crate::printing::print_bytes;
@@ -21,7 +21,7 @@ use protocol::Answer;
 
 // "1 BYTES..": label reading
 fn read_label(bytes: &[u8]) {
-    let found = label::read(bytes);
+    let found = label::narrow::read(bytes);
     print_first(found.refusal);
     print(found.number);
     print(found.disks);
@@ -32,7 +32,7 @@ fn read_label(bytes: &[u8]) {
 
 // "2 d n C T D m": label writing
 fn write_label(numbers: &[usize; PLACES], bytes: &mut [u8]) {
-    let written = label::write(bytes, numbers[1], numbers[2], label(numbers, 3));
+    let written = label::narrow::write(bytes, numbers[1], numbers[2], label(numbers, 3));
     print_first(written.refusal);
     print(written.length);
     print_bytes(bytes);

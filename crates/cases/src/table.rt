@@ -1,6 +1,6 @@
 // The numbers of a line.
 ghost use Prim.Native.Nat.{_≤_};
-use crate::buffers::least;
+use crate::lent::least;
 use crate::running::run;
 
 // "4 n b R BYTES..", with 60 bytes
@@ -14,8 +14,8 @@ fn longer(number: usize, digit: u8) -> usize {
     (number % 65536 * 10 + (digit % 16) as usize) % 65536
 }
 
-// Takes one byte of a line; the number at a place is being read. Gives the place for the next byte. The byte that ends a line
-// runs its case.
+// Takes one byte of a line; the number at a place is being read. Gives the place for the next byte. The byte that
+// ends a line runs its case.
 pub fn take(x: u8, place: usize, numbers: &mut [usize; PLACES]) -> usize
     requires { do ⌜ place ≤ (← ⟦MOST_NUMBERS⟧) ⌝ }
     ensures { λ r. do ⌜ r ≤ (← ⟦MOST_NUMBERS⟧ .entry) ⌝ }

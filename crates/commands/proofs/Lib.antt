@@ -1,5 +1,5 @@
 pub mod Capped
+pub mod Decoding
 pub mod OnePass
 pub mod ScanOf
-pub mod Spoken
 pub mod WordsFound

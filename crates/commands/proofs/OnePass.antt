@@ -10,7 +10,7 @@ use lib.Dec.{eqb}
 use lib.ListN.{length, take, getD}
 use lib.Seq.{take-suc, length-take-le}
 use Rattle.commands.specs.declared.scanner.Scan.{Scan}
-use Rattle.commands.specs.Scanning.{begun, wordEnded, byteRead, stepped, scanned}
+use Rattle.commands.specs.Scanning.{initialScan, wordEnded, byteRead, stepped, scanned}
 
 -- ---- a pass in two parts, and its counts
 
@@ -39,21 +39,23 @@ few-scanned (x ∷ line) s n few =
     let e : suc (length line) + n ≡ length line + suc n = omega arith in
     rw e (few-scanned line (stepped s x) (suc n) (few-step s x n few))
 
-few : (line : List ℕ) → Few (length line) (scanned begun line)
-unfolding begun
-few line = rw (add-zero (length line)) at (few-scanned line begun 0 (record { words = omega arith; bytes = omega arith }))
+few : (line : List ℕ) → Few (length line) (scanned initialScan line)
+unfolding initialScan
+few line =
+    let none : Few 0 initialScan = record { words = omega arith; bytes = omega arith } in
+    rw (add-zero (length line)) at (few-scanned line initialScan 0 none)
 
--- ---- the loop's turns
+-- ---- the loop
 
-pub first-turn : (line : List ℕ) → begun ≡ scanned begun (take 0 line)
+pub first-step : (line : List ℕ) → initialScan ≡ scanned initialScan (take 0 line)
 unfolding scanned
-first-turn line = refl
+first-step line = refl
 
-pub next-turn : (line : List ℕ) (i : ℕ) (s next : Scan) → i < length line → s ≡ scanned begun (take i line)
-    → next ≡ stepped s (getD line i 0) → next ≡ scanned begun (take (i + 1) line)
+pub next-step : (line : List ℕ) (i : ℕ) (s next : Scan) → i < length line → s ≡ scanned initialScan (take i line)
+    → next ≡ stepped s (getD line i 0) → next ≡ scanned initialScan (take (i + 1) line)
 unfolding scanned
-next-turn line i s next h e step =
-    rw (add-one i, take-suc line i 0 h, scanned-append begun (take i line) (getD line i 0 ∷ []), ← e) step
+next-step line i s next h e step =
+    rw (add-one i, take-suc line i 0 h, scanned-append initialScan (take i line) (getD line i 0 ∷ []), ← e) step
 
-pub few-turns : (line : List ℕ) (i : ℕ) (s : Scan) → i ≤ length line → s ≡ scanned begun (take i line) → Few i s
-few-turns line i s h e = rw (← length-take-le i line h, e) (few (take i line))
+pub few-read : (line : List ℕ) (i : ℕ) (s : Scan) → i ≤ length line → s ≡ scanned initialScan (take i line) → Few i s
+few-read line i s h e = rw (← length-take-le i line h, e) (few (take i line))

@@ -6,9 +6,9 @@ use Prim.Native.Nat.{ℕ}
 use native.Mathlib.Numerals.{add-one}
 use lib.Dec.{eqb, eqb·suc-zero}
 use lib.ListN.{length, length-append}
-use Rattle.decimal.specs.Numerals.{digit}
+use Rattle.decimal.specs.Numerals.{isDigit}
 use Rattle.commands.specs.declared.scanner.Scan.{Scan}
-use Rattle.commands.specs.Commands.{sized, digits}
+use Rattle.commands.specs.Commands.{sized, areDigits}
 use Rattle.commands.specs.Scanning.{within, fits, wordEnded, letterWith, byteRead}
 use Rattle.commands.proofs.Capped.{capped, capped-snoc}
 
@@ -41,9 +41,9 @@ abbrev pub endFits : List (List ℕ) → List ℕ → Bool
 endFits [] w = eqb (length w) 1
 endFits (v ∷ done) w = sized (length w) (capped w)
 
-abbrev pub goodOf : List (List ℕ) → List ℕ → Bool
-goodOf [] w = true
-goodOf (v ∷ done) w = goodOf done v && endFits done v && digits w
+abbrev pub validOf : List (List ℕ) → List ℕ → Bool
+validOf [] w = true
+validOf (v ∷ done) w = validOf done v && endFits done v && areDigits w
 
 unfoldable pub scanOf : List (List ℕ) → List ℕ → Scan
 scanOf done w = record {
@@ -54,7 +54,7 @@ scanOf done w = record {
   last = lastNumber done;
   bytes = length w;
   value = capped w;
-  good = goodOf done w;
+  valid = validOf done w;
 }
 
 -- ---- a step
@@ -64,10 +64,10 @@ last-byte-snoc [] x = refl
 last-byte-snoc (y ∷ []) x = refl
 last-byte-snoc (y ∷ z ∷ w) x = last-byte-snoc (z ∷ w) x
 
-digits-snoc : (w : List ℕ) (x : ℕ) → digits (w ++ (x ∷ [])) ≡ (digits w && digit x)
-unfolding digits
-digits-snoc [] x = and-true (digit x)
-digits-snoc (y ∷ w) x = rw (digits-snoc w x) (sym (and-assoc (digit y) (digits w) (digit x)))
+digits-snoc : (w : List ℕ) (x : ℕ) → areDigits (w ++ (x ∷ [])) ≡ (areDigits w && isDigit x)
+unfolding areDigits
+digits-snoc [] x = and-true (isDigit x)
+digits-snoc (y ∷ w) x = rw (digits-snoc w x) (sym (and-assoc (isDigit y) (areDigits w) (isDigit x)))
 
 fits-end : (done : List (List ℕ)) (w : List ℕ) → fits (scanOf done w) ≡ endFits done w
 unfolding fits scanOf
@@ -75,20 +75,21 @@ fits-end [] w = refl
 fits-end (v ∷ done) w = rw (eqb·suc-zero (length done))
 
 pub ended-step : (done : List (List ℕ)) (w : List ℕ) → wordEnded (scanOf done w) ≡ scanOf (w ∷ done) []
-unfolding wordEnded scanOf numberOf digits
-ended-step done w = rw (fits-end done w, add-one (length done), and-true (goodOf done w && endFits done w))
+unfolding wordEnded scanOf numberOf areDigits
+ended-step done w = rw (fits-end done w, add-one (length done), and-true (validOf done w && endFits done w))
 
 letter-step : (done : List (List ℕ)) (w : List ℕ) (x : ℕ) → letterWith (scanOf done w) x ≡ letterOf done (w ++ (x ∷ []))
 unfolding letterWith scanOf
 letter-step [] w x = sym (last-byte-snoc w x)
 letter-step (v ∷ done) w x = rw (eqb·suc-zero (length done))
 
-good-step : (done : List (List ℕ)) (w : List ℕ) (x : ℕ)
-    → (goodOf done w && (eqb (length done) 0 || digit x)) ≡ goodOf done (w ++ (x ∷ []))
-good-step [] w x = refl
-good-step (v ∷ done) w x =
-    rw (eqb·suc-zero (length done), digits-snoc w x) (and-assoc (goodOf done v && endFits done v) (digits w) (digit x))
+valid-step : (done : List (List ℕ)) (w : List ℕ) (x : ℕ)
+    → (validOf done w && (eqb (length done) 0 || isDigit x)) ≡ validOf done (w ++ (x ∷ []))
+valid-step [] w x = refl
+valid-step (v ∷ done) w x =
+    rw (eqb·suc-zero (length done), digits-snoc w x)
+    (and-assoc (validOf done v && endFits done v) (areDigits w) (isDigit x))
 
 pub byte-step : (done : List (List ℕ)) (w : List ℕ) (x : ℕ) → byteRead (scanOf done w) x ≡ scanOf done (w ++ (x ∷ []))
 unfolding byteRead scanOf
-byte-step done w x = rw (letter-step done w x, good-step done w x, capped-snoc w 0 x, length-append w (x ∷ []))
+byte-step done w x = rw (letter-step done w x, valid-step done w x, capped-snoc w 0 x, length-append w (x ∷ []))

@@ -13,10 +13,12 @@ unfoldable pub split : List (List ℕ) → List ℕ → List ℕ → List (List 
 split done w [] = w ∷ done
 split done w (x ∷ line) = cond (eqb x 32) (split (w ∷ done) [] line) (split done (w ++ (x ∷ [])) line)
 
-pub pass-splits : (line : List ℕ) (done : List (List ℕ)) (w : List ℕ) → wordEnded (scanned (scanOf done w) line) ≡ scanOf (split done w line) []
+pub pass-splits : (line : List ℕ) (done : List (List ℕ)) (w : List ℕ)
+    → wordEnded (scanned (scanOf done w) line) ≡ scanOf (split done w line) []
 unfolding scanned split stepped
 pass-splits [] done w = ended-step done w
-pass-splits (x ∷ line) done w = go (test (eqb x 32)) (pass-splits line (w ∷ done) []) (pass-splits line done (w ++ (x ∷ [])))
+pass-splits (x ∷ line) done w =
+    go (test (eqb x 32)) (pass-splits line (w ∷ done) []) (pass-splits line done (w ++ (x ∷ [])))
   where
     go : Test (eqb x 32) → wordEnded (scanned (scanOf (w ∷ done) []) line) ≡ scanOf (split (w ∷ done) [] line) []
         → wordEnded (scanned (scanOf done (w ++ (x ∷ []))) line) ≡ scanOf (split done (w ++ (x ∷ [])) line) []
@@ -43,10 +45,12 @@ words-some (x ∷ line) = go (test (eqb x 32)) (words line)
     go (fails e) [] = rw e
     go (fails e) (v ∷ later) = rw e
 
-pub words-split : (line : List ℕ) (done : List (List ℕ)) (w : List ℕ) → reverse (split done w line) ≡ reverseAux done (joined w (words line))
+pub words-split : (line : List ℕ) (done : List (List ℕ)) (w : List ℕ)
+    → reverse (split done w line) ≡ reverseAux done (joined w (words line))
 unfolding words split
 words-split [] done w = rw (append-nil w)
-words-split (x ∷ line) done w = go (test (eqb x 32)) (words-split line (w ∷ done) []) (words-split line done (w ++ (x ∷ [])))
+words-split (x ∷ line) done w =
+    go (test (eqb x 32)) (words-split line (w ∷ done) []) (words-split line done (w ++ (x ∷ [])))
   where
     go : Test (eqb x 32) → reverse (split (w ∷ done) [] line) ≡ reverseAux done (w ∷ joined [] (words line))
         → reverse (split done (w ++ (x ∷ [])) line) ≡ reverseAux done (joined (w ++ (x ∷ [])) (words line))

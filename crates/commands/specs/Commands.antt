@@ -4,8 +4,7 @@ use mathlib.Core.List.{List, [], _∷_, map}
 use Prim.Native.Nat.{ℕ}
 use lib.Dec.{eqb, ltb, leb}
 use lib.ListN.{length}
-use Rattle.decimal.specs.Numerals.{digit, value}
-use Rattle.protocol.specs.declared.Call.{Call}
+use Rattle.decimal.specs.Numerals.{isDigit, numeralValue}
 use Rattle.protocol.specs.declared.Call.the-variants.{Read, Write, Join, Clean, Restart, Detach, Attach, PowerOff}
 use Rattle.commands.specs.declared.Command.{Command}
 use Rattle.commands.specs.declared.Command.the-variants.{Format, Perform, Bad}
@@ -17,14 +16,15 @@ abbrev pub onFirst : ℕ → List (List ℕ) → List (List ℕ)
 onFirst x [] = (x ∷ []) ∷ []
 onFirst x (w ∷ later) = (x ∷ w) ∷ later
 
--- "one space between": each space (32) ends a word and begins the next. Two spaces have an empty word between them, a space at an end has one beside it.
+-- "one space between": each space (32) ends a word and begins the next. Two spaces have an empty word between them, a
+-- space at an end has one beside it.
 unfoldable pub words : List ℕ → List (List ℕ)
 words [] = [] ∷ []
 words (x ∷ line) = cond (eqb x 32) ([] ∷ words line) (onFirst x (words line))
 
-unfoldable pub digits : List ℕ → Bool
-digits [] = true
-digits (x ∷ w) = digit x && digits w
+unfoldable pub areDigits : List ℕ → Bool
+areDigits [] = true
+areDigits (x ∷ w) = isDigit x && areDigits w
 
 -- "at most 65,535"
 abbrev pub numberMost : ℕ
@@ -36,7 +36,7 @@ sized count v = ltb 0 count && leb count 5 && leb v numberMost
 
 -- "numbers are decimal, 1 to 5 digits, at most 65,535"
 unfoldable pub isNumber : List ℕ → Bool
-isNumber w = digits w && sized (length w) (value w)
+isNumber w = areDigits w && sized (length w) (numeralValue w)
 
 unfoldable pub areNumbers : List (List ℕ) → Bool
 areNumbers [] = true
@@ -71,19 +71,20 @@ withTwo a b = (102, Format a b) ∷ (106, Perform (Join a b) 0) ∷ []
 abbrev withThree : ℕ → ℕ → ℕ → List (ℕ × Command)
 withThree k v p = (119, cond (leb v 255) (Perform (Write k p) v) Bad) ∷ []
 
-unfoldable pub meant : ℕ → List ℕ → Command
-meant letter [] = entry letter withNone
-meant letter (a ∷ []) = entry letter (withOne a)
-meant letter (a ∷ b ∷ []) = entry letter (withTwo a b)
-meant letter (a ∷ b ∷ c ∷ []) = entry letter (withThree a b c)
-meant letter (a ∷ b ∷ c ∷ d ∷ more) = Bad
+-- the command that a letter with these numbers is
+unfoldable pub commandWith : ℕ → List ℕ → Command
+commandWith letter [] = entry letter withNone
+commandWith letter (a ∷ []) = entry letter (withOne a)
+commandWith letter (a ∷ b ∷ []) = entry letter (withTwo a b)
+commandWith letter (a ∷ b ∷ c ∷ []) = entry letter (withThree a b c)
+commandWith letter (a ∷ b ∷ c ∷ d ∷ more) = Bad
 
 -- the first word is a letter and the others are numbers
-unfoldable pub spoken : List (List ℕ) → Command
-spoken [] = Bad
-spoken ([] ∷ later) = Bad
-spoken ((letter ∷ []) ∷ later) = cond (areNumbers later) (meant letter (map value later)) Bad
-spoken ((x ∷ y ∷ w) ∷ later) = Bad
+unfoldable pub commandOfWords : List (List ℕ) → Command
+commandOfWords [] = Bad
+commandOfWords ([] ∷ later) = Bad
+commandOfWords ((letter ∷ []) ∷ later) = cond (areNumbers later) (commandWith letter (map numeralValue later)) Bad
+commandOfWords ((x ∷ y ∷ w) ∷ later) = Bad
 
 -- "over 32 bytes before its line feed"
 abbrev pub lineMost : ℕ
@@ -91,4 +92,4 @@ lineMost = 32
 
 -- "Any other line, or one over 32 bytes before its line feed, gives 99 and changes nothing"
 unfoldable pub commandOf : List ℕ → Command
-commandOf line = cond (ltb lineMost (length line)) Bad (spoken (words line))
+commandOf line = cond (ltb lineMost (length line)) Bad (commandOfWords (words line))

@@ -3,14 +3,14 @@ use mathlib.Core.Bool.{Bool, true, cond, _&&_, _||_}
 use mathlib.Core.List.{List, [], _∷_}
 use Prim.Native.Nat.{ℕ, _+_, _-_, _*_}
 use lib.Dec.{eqb, ltb}
-use Rattle.decimal.specs.Numerals.{digit}
+use Rattle.decimal.specs.Numerals.{isDigit}
 use Rattle.commands.specs.declared.Command.{Command}
 use Rattle.commands.specs.declared.Command.the-variants.{Bad}
 use Rattle.commands.specs.declared.scanner.Scan.{Scan}
-use Rattle.commands.specs.Commands.{numberMost, sized, meant}
+use Rattle.commands.specs.Commands.{numberMost, sized, commandWith}
 
-unfoldable pub begun : Scan
-begun = record { letter = 0; words = 0; third = 0; second = 0; last = 0; bytes = 0; value = 0; good = true }
+unfoldable pub initialScan : Scan
+initialScan = record { letter = 0; words = 0; third = 0; second = 0; last = 0; bytes = 0; value = 0; valid = true }
 
 -- one digit more, unless the value is too large already
 unfoldable pub grown : ℕ → ℕ → ℕ
@@ -31,7 +31,7 @@ wordEnded s = record {
   last = within (s .value);
   bytes = 0;
   value = 0;
-  good = s .good && fits s;
+  valid = s .valid && fits s;
 }
 
 unfoldable pub letterWith : Scan → ℕ → ℕ
@@ -46,7 +46,7 @@ byteRead s x = record {
   last = s .last;
   bytes = s .bytes + 1;
   value = grown (s .value) x;
-  good = s .good && (eqb (s .words) 0 || digit x);
+  valid = s .valid && (eqb (s .words) 0 || isDigit x);
 }
 
 unfoldable pub stepped : Scan → ℕ → Scan
@@ -59,9 +59,9 @@ scanned s (x ∷ line) = scanned (stepped s x) line
 -- the command of a line whose last word has ended
 unfoldable pub decoded : Scan → Command
 decoded s =
-    cond (s .good)
-    (cond (eqb (s .words) 1) (meant (s .letter) [])
-    (cond (eqb (s .words) 2) (meant (s .letter) (s .last ∷ []))
-    (cond (eqb (s .words) 3) (meant (s .letter) (s .second ∷ s .last ∷ []))
-    (cond (eqb (s .words) 4) (meant (s .letter) (s .third ∷ s .second ∷ s .last ∷ [])) Bad))))
+    cond (s .valid)
+    (cond (eqb (s .words) 1) (commandWith (s .letter) [])
+    (cond (eqb (s .words) 2) (commandWith (s .letter) (s .last ∷ []))
+    (cond (eqb (s .words) 3) (commandWith (s .letter) (s .second ∷ s .last ∷ []))
+    (cond (eqb (s .words) 4) (commandWith (s .letter) (s .third ∷ s .second ∷ s .last ∷ [])) Bad))))
     Bad

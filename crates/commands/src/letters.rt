@@ -1,7 +1,7 @@
 // Which command a letter is, with so many numbers.
 ghost use mathlib.Core.Path.{_≡_};
 ghost use mathlib.Core.List.{[], _∷_};
-ghost use Rattle.commands.specs.Commands.{meant};
+ghost use Rattle.commands.specs.Commands.{commandWith};
 ghost use Rattle.commands.specs.Scanning.{decoded};
 use crate::Command;
 use crate::scanner::Scan;
@@ -18,7 +18,7 @@ fn plain(call: Call) -> Command
 }
 
 fn with_none(letter: u8) -> Command
-    ensures { λ r. ⌜ r ≡ meant letter [] ⌝ }
+    ensures { λ r. ⌜ r ≡ commandWith letter [] ⌝ }
 {
     if letter == b'c' {
         return plain(Call::PowerOff);
@@ -27,7 +27,7 @@ fn with_none(letter: u8) -> Command
 }
 
 fn with_one(letter: u8, a: u16) -> Command
-    ensures { λ r. ⌜ r ≡ meant letter (a ∷ []) ⌝ }
+    ensures { λ r. ⌜ r ≡ commandWith letter (a ∷ []) ⌝ }
 {
     match letter {
         b'x' => plain(Call::Detach { disk: a as usize }),
@@ -40,7 +40,7 @@ fn with_one(letter: u8, a: u16) -> Command
 }
 
 fn with_two(letter: u8, a: u16, b: u16) -> Command
-    ensures { λ r. ⌜ r ≡ meant letter (a ∷ b ∷ []) ⌝ }
+    ensures { λ r. ⌜ r ≡ commandWith letter (a ∷ b ∷ []) ⌝ }
 {
     match letter {
         b'f' => Command::Format {
@@ -57,7 +57,7 @@ fn with_two(letter: u8, a: u16, b: u16) -> Command
 
 // "`w k v p` write a block of 64 bytes v (at most 255)"
 fn with_three(letter: u8, k: u16, v: u16, p: u16) -> Command
-    ensures { λ r. ⌜ r ≡ meant letter (k ∷ v ∷ p ∷ []) ⌝ }
+    ensures { λ r. ⌜ r ≡ commandWith letter (k ∷ v ∷ p ∷ []) ⌝ }
 {
     if letter == b'w' {
         if v <= 255 {
@@ -77,7 +77,7 @@ fn with_three(letter: u8, k: u16, v: u16, p: u16) -> Command
 pub fn decode(s: Scan) -> Command
     ensures { λ r. ⌜ r ≡ decoded s ⌝ }
 {
-    if !s.good {
+    if !s.valid {
         return Command::Bad;
     }
     let words = s.words;

@@ -2,12 +2,14 @@
 ghost use mathlib.Core.Path.{_≡_};
 ghost use Prim.Native.Nat.{_-_, _≤_};
 ghost use lib.ListN.{length};
-ghost use Rattle.decimal.specs.Numerals.{digit};
+ghost use Rattle.decimal.specs.Numerals.{isDigit};
 ghost use Rattle.commands.specs.Commands.{lineMost};
-ghost use Rattle.commands.specs.Scanning.{begun, grown, fits, within, wordEnded, letterWith, byteRead, stepped, scanned};
+ghost use Rattle.commands.specs.Scanning.{initialScan, grown, fits, within, wordEnded};
+ghost use Rattle.commands.specs.Scanning.{letterWith, byteRead, stepped, scanned};
 
-// How far a line has been read: the byte that its first word has; how many words have ended, and the last three of them as numbers, the latest
-// last; the length and the value of the word under way; and whether every word so far is what a command may have there.
+// How far a line has been read: the byte that its first word has; how many words have ended, and the last three of
+// them as numbers, the latest last; the length and the value of the word under way; and whether every word so far is
+// what a command may have there.
 pub struct Scan {
     pub letter: u8,
     pub words: usize,
@@ -16,14 +18,14 @@ pub struct Scan {
     pub last: u16,
     pub bytes: usize,
     pub value: u32,
-    pub good: bool,
+    pub valid: bool,
 }
 
 // "at most 65,535"
 const NUMBER_MOST: u32 = 65535;
 
 fn begin() -> Scan
-    ensures { λ r. ⌜ r ≡ begun ⌝ }
+    ensures { λ r. ⌜ r ≡ initialScan ⌝ }
 {
     Scan {
         letter: 0,
@@ -33,12 +35,12 @@ fn begin() -> Scan
         last: 0,
         bytes: 0,
         value: 0,
-        good: true,
+        valid: true,
     }
 }
 
 fn is_digit(x: u8) -> bool
-    ensures { λ r. ⌜ r ≡ digit x ⌝ }
+    ensures { λ r. ⌜ r ≡ isDigit x ⌝ }
 {
     (b'0' <= x) & (x <= b'9')
 }
@@ -94,11 +96,11 @@ pub fn end_word(s: Scan) -> Scan
         last: within(s.value),
         bytes: 0,
         value: 0,
-        good: s.good & fits(s),
+        valid: s.valid & fits(s),
     }
 }
 
-// The first word's byte; of several, the last, and then the line is not good.
+// The first word's byte; of several, the last, and then the line is not valid.
 fn letter_with(s: Scan, x: u8) -> u8
     ensures { λ r. ⌜ r ≡ letterWith s x ⌝ }
 {
@@ -117,7 +119,7 @@ fn read_byte(s: Scan, x: u8) -> Scan
         last: s.last,
         bytes: s.bytes + 1,
         value: grow(s.value, x),
-        good: s.good & ((s.words == 0) | is_digit(x)),
+        valid: s.valid & ((s.words == 0) | is_digit(x)),
     }
 }
 
@@ -133,7 +135,7 @@ fn step(s: Scan, x: u8) -> Scan
 
 pub fn scan_line(line: &[u8]) -> Scan
     requires { ⌜ length (now line) ≤ lineMost ⌝ }
-    ensures { λ r. ⌜ r ≡ scanned begun (now (line .entry)) ⌝ }
+    ensures { λ r. ⌜ r ≡ scanned initialScan (now (line .entry)) ⌝ }
     ensures { λ r. ⌜ r .words ≤ lineMost ⌝ }
 {
     let mut s = begin();

@@ -4,10 +4,10 @@ use mathlib.Core.List.{List}
 use Prim.Native.Nat.{ℕ, _*_, _≤_}
 use lib.ListN.{length}
 use Rattle.replies.specs.Replies.{replyMost}
-use Rattle.shell.specs.Dialogue.{heldMost}
+use Rattle.shell.specs.Dialogue.{lineBuffer}
 
--- a line that is held, and a reply to each byte of a block, or to the last line
+-- a buffered line, and a reply to each byte of a block, or to the last line
 pub record Room (block line out : List ℕ) : Type 0 where
-  pub holds : length line ≡ heldMost
+  pub buffers : length line ≡ lineBuffer
   pub answers : length block * replyMost ≤ length out
   pub ends : replyMost ≤ length out

@@ -1,8 +1,8 @@
-// The cabinet program: it reads a block of input, has the shell serve it, and writes what the shell said.
+// The cabinet program: it reads a block of input, has the shell serve it, and writes the replies.
 ghost use mathlib.Core.Path.{_≡_};
 ghost use Prim.Native.Nat.{_≤_};
 ghost use lib.ListN.{length};
-ghost use Rattle.shell.specs.Dialogue.{heldMost};
+ghost use Rattle.shell.specs.Dialogue.{lineBuffer};
 ghost use Rattle.console.specs.Buffers.{Room};
 use libc::STDIN_FILENO;
 use libc::STDOUT_FILENO;
@@ -10,7 +10,7 @@ use protocol::geometry::BLOCK_SIZE;
 use protocol::geometry::MOST_BLOCKS;
 use replies::REPLY_MOST;
 use sets::DISKS;
-use shell::LINE_HELD;
+use shell::LINE_BUFFER;
 use shell::Shell;
 
 // The most bytes of input at a time.
@@ -22,15 +22,15 @@ const OUTPUT: usize = BLOCK * REPLY_MOST;
 // The largest disk area.
 const MEMORY: usize = DISKS * MOST_BLOCKS * BLOCK_SIZE;
 
-// What a turn leaves, and whether another is to follow.
-struct Turn {
+// What one read leaves, and whether another is to follow.
+struct Served {
     shell: Shell,
     more: bool,
 }
 
-// Has the shell take what a read gave. The end of the input ends a line that has begun; a read that failed does not, since
-// the line may be cut short.
-fn hear(
+// Has the shell take what a read gave. The end of the input ends a line that has begun; a read that failed does not,
+// since the line may be cut short.
+fn take_input(
     h: Shell,
     got: isize,
     block: &[u8],
@@ -38,8 +38,8 @@ fn hear(
     memory: &mut [u8],
     out: &mut [u8],
 ) -> Shell
-    requires { ⌜ (h .held ≤ heldMost) × (h .used ≡ 0) × Room (now block) (now line) (now out) ⌝ }
-    ensures { λ r. ⌜ (r .held ≤ heldMost) × (r .used ≤ length (now (out .exit))) ⌝ }
+    requires { ⌜ (h .buffered ≤ lineBuffer) × (h .used ≡ 0) × Room (now block) (now line) (now out) ⌝ }
+    ensures { λ r. ⌜ (r .buffered ≤ lineBuffer) × (r .used ≤ length (now (out .exit))) ⌝ }
 {
     if got < 0 {
         return h;
@@ -51,21 +51,27 @@ fn hear(
     shell::serve(&block[..n], h, line, memory, out)
 }
 
-// One read, and the replies to what came, so that a person who types has them before the next read. Where they cannot be
-// written, nobody reads any more, and the program ends.
-fn take_turn(h: Shell, block: &mut [u8], line: &mut [u8], memory: &mut [u8], out: &mut [u8]) -> Turn
-    requires { ⌜ (h .held ≤ heldMost) × (h .used ≡ 0) × Room (now block) (now line) (now out) ⌝ }
-    ensures { λ r. ⌜ (r .shell .held ≤ heldMost) × (r .shell .used ≡ 0) ⌝ }
+// One read, and the replies to what came, so that a person who types has them before the next read. Where they cannot
+// be written, nobody reads any more, and the program ends.
+fn serve_once(
+    h: Shell,
+    block: &mut [u8],
+    line: &mut [u8],
+    memory: &mut [u8],
+    out: &mut [u8],
+) -> Served
+    requires { ⌜ (h .buffered ≤ lineBuffer) × (h .used ≡ 0) × Room (now block) (now line) (now out) ⌝ }
+    ensures { λ r. ⌜ (r .shell .buffered ≤ lineBuffer) × (r .shell .used ≡ 0) ⌝ }
 {
     let got = libc::read(STDIN_FILENO, block);
-    let heard = hear(h, got, block, line, memory, out);
-    let used = heard.used;
+    let after = take_input(h, got, block, line, memory, out);
+    let used = after.used;
     let written = io::write_all(STDOUT_FILENO, &out[..used]);
-    let state = heard.state;
-    Turn {
+    let state = after.state;
+    Served {
         shell: Shell {
             state: state,
-            held: heard.held,
+            buffered: after.buffered,
             used: 0,
         },
         more: written & (0 < got),
@@ -80,17 +86,17 @@ fn run(block: &mut [u8], line: &mut [u8], memory: &mut [u8], out: &mut [u8])
     let mut more = true;
     let mut reads = u64::MAX;
     while reads > 0 && more {
-        let t = take_turn(h, block, line, memory, out);
-        let next = t.shell;
+        let served = serve_once(h, block, line, memory, out);
+        let next = served.shell;
         h = next;
-        more = t.more;
+        more = served.more;
         reads -= 1;
     }
 }
 
 fn main() {
     let mut block = [0u8; BLOCK];
-    let mut line = [0u8; LINE_HELD];
+    let mut line = [0u8; LINE_BUFFER];
     let mut memory = [0u8; MEMORY];
     let mut out = [0u8; OUTPUT];
     run(&mut block, &mut line, &mut memory, &mut out);

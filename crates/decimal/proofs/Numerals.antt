@@ -10,7 +10,7 @@ use lib.ListN.{length, getD, length-append, List·getD-append}
 use lib.Seq.{getD-append-seam}
 use borrow.Author.Tests.{ltb-true, ltb-false, le-leb}
 use Rattle.sets.proofs.Tests.{Test, test, passes, fails}
-use Rattle.decimal.specs.Numerals.{numeral, value, valueFrom, digit, NumeralsReadBack}
+use Rattle.decimal.specs.Numerals.{numeral, numeralValue, valueFrom, isDigit, NumeralsReadBack}
 use Rattle.decimal.proofs.Spelling.{every-numeral}
 
 value-append : (v : ℕ) (a b : List ℕ) → valueFrom v (a ++ b) ≡ valueFrom (valueFrom v a) b
@@ -18,20 +18,22 @@ unfolding valueFrom
 value-append v [] b = refl
 value-append v (x ∷ a) b = value-append _ a b
 
-reads : (n : ℕ) → value (numeral n) ≡ n
-unfolding value valueFrom
-reads = every-numeral (λ n w. value w ≡ n) (λ n h. omega arith) (λ n tens h e. rw (value-append 0 tens, e) (omega arith))
+reads : (n : ℕ) → numeralValue (numeral n) ≡ n
+unfolding numeralValue valueFrom
+reads =
+    every-numeral (λ n w. numeralValue w ≡ n) (λ n h. omega arith)
+    (λ n tens h e. rw (value-append 0 tens, e) (omega arith))
 
 abbrev AreDigits : List ℕ → Type 0
-AreDigits w = (i : ℕ) → i < length w → digit (getD w i 0) ≡ true
+AreDigits w = (i : ℕ) → i < length w → isDigit (getD w i 0) ≡ true
 
-digit-of : (x : ℕ) → x < 10 → digit (48 + x) ≡ true
-unfolding digit
+digit-of : (x : ℕ) → x < 10 → isDigit (48 + x) ≡ true
+unfolding isDigit
 digit-of x h = rw (le-leb 48 (48 + x) (omega arith), le-leb (48 + x) 57 (omega arith))
 
 digits-append : (w : List ℕ) (x : ℕ) → x < 10 → AreDigits w → AreDigits (w ++ ((48 + x) ∷ []))
 digits-append w x h d i l = by-test (test (ltb i (length w))) where
-  by-test : Test (ltb i (length w)) → digit (getD (w ++ ((48 + x) ∷ [])) i 0) ≡ true
+  by-test : Test (ltb i (length w)) → isDigit (getD (w ++ ((48 + x) ∷ [])) i 0) ≡ true
   by-test (passes e) = let k = ltb-true i (length w) e in rw (List·getD-append w _ 0 i k) (d i k)
   by-test (fails e) =
       let same : i ≡ length w = omega (arith, ltb-false i (length w) e, length-append w ((48 + x) ∷ [])) in

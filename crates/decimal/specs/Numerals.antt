@@ -20,14 +20,14 @@ unfoldable pub valueFrom : ℕ → List ℕ → ℕ
 valueFrom v [] = v
 valueFrom v (x ∷ xs) = valueFrom (v * 10 + (x - 48)) xs
 
-unfoldable pub value : List ℕ → ℕ
-value w = valueFrom 0 w
+unfoldable pub numeralValue : List ℕ → ℕ
+numeralValue w = valueFrom 0 w
 
 -- "0" is 48 and "9" is 57
-unfoldable pub digit : ℕ → Bool
-digit x = leb 48 x && leb x 57
+unfoldable pub isDigit : ℕ → Bool
+isDigit x = leb 48 x && leb x 57
 
 -- A numeral is digits and nothing else, and stands for its number.
 pub record NumeralsReadBack : Type 0 where
-  pub reads : (n : ℕ) → value (numeral n) ≡ n
-  pub digits : (n i : ℕ) → i < length (numeral n) → digit (getD (numeral n) i 0) ≡ true
+  pub reads : (n : ℕ) → numeralValue (numeral n) ≡ n
+  pub digits : (n i : ℕ) → i < length (numeral n) → isDigit (getD (numeral n) i 0) ≡ true

@@ -1,7 +1,7 @@
 // Numbers as decimal numerals.
 ghost use Prim.Native.Nat.{_+_, _≤_};
 ghost use lib.ListN.{length};
-ghost use Rattle.label.specs.Writing.{Stored};
+ghost use Rattle.buffers.specs.Buffers.{Stored};
 ghost use Rattle.decimal.specs.Numerals.{numeral};
 
 // Stores the number's numeral at a place, and gives the place behind it.

@@ -1,4 +1,5 @@
--- What a program outside sees of a call, from what the call yields; and that each state has one writing. Assumes nothing.
+-- What a program outside sees of a call, from what the call yields; and that each state has one writing. Assumes
+-- nothing.
 use mathlib.Core.Path.{_≡_, refl}
 use mathlib.Core.Bool.{cond}
 use mathlib.Core.List.{List}
@@ -15,12 +16,14 @@ use Rattle.protocol.specs.States.{currentOf}
 use Rattle.protocol.specs.Soundness.{FitPower}
 use Rattle.protocol.specs.Outcomes.{Outcome}
 use Rattle.exports.specs.declared.flat.FlatAnswer.{FlatAnswer}
-use Rattle.exports.specs.Flat.{Seen, powerOf, opened, flat, flatAnswer, seen, OpenedIsWritten, SoundIsWritten}
+use Rattle.exports.specs.Flat.{FlatOutcome, powerOf, opened, flatState, flatAnswer, flatOutcome}
+use Rattle.exports.specs.Flat.{OpenedIsWritten, SoundIsWritten}
 
-pub seen-of : (r : FlatAnswer) (a : Answer) (area output : List ℕ) (o : Outcome) → r ≡ flatAnswer a → record { answer = a; area = area; output = output } ≡ o
-    → _≡_ {A = Seen} (record { answer = r; area = area; output = output }) (seen o)
-unfolding seen
-seen-of r a area output o given yields = rw (← yields, given)
+pub flat-outcome : {r : FlatAnswer} {a : Answer} {area output : List ℕ} {o : Outcome} → r ≡ flatAnswer a
+    → record { answer = a; area = area; output = output } ≡ o
+    → _≡_ {A = FlatOutcome} (record { answer = r; area = area; output = output }) (flatOutcome o)
+unfolding flatOutcome
+flat-outcome given yields = rw (← yields, given)
 
 current-written : (g : ℕ) → currentOf (powerOf g) ≡ g
 unfolding powerOf
@@ -31,7 +34,7 @@ current-written g = go (test (eqb g 0))
     go (fails e) = rw e
 
 pub opened-is-written : OpenedIsWritten
-unfolding flat opened
+unfolding flatState opened
 opened-is-written f = rw (current-written (f .current))
 
 power-written : (n : ℕ) (labels : List Label) (p : Power) → FitPower n labels p → powerOf (currentOf p) ≡ p
@@ -40,5 +43,5 @@ power-written n labels Stopped h = refl
 power-written n labels (Running g) h = rw (ne-eqb g 0 (λ e. omega (arith, h .filled)))
 
 pub sound-is-written : SoundIsWritten
-unfolding flat opened
+unfolding flatState opened
 sound-is-written s h = rw (power-written (s .disks) (s .labels) (s .power) (h .power))

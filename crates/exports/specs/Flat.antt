@@ -20,29 +20,43 @@ powerOf g = cond (eqb g 0) Stopped (Running g)
 
 -- the state that a flat one stands for
 unfoldable pub opened : FlatState → State
-opened f = record { disks = f .disks; blocks = f .blocks; labels = f .labels; online = f .online; power = powerOf (f .current) }
+opened f = record {
+  disks = f .disks;
+  blocks = f .blocks;
+  labels = f .labels;
+  online = f .online;
+  power = powerOf (f .current);
+}
 
-unfoldable pub flat : State → FlatState
-flat s = record { labels = s .labels; disks = s .disks; blocks = s .blocks; online = s .online; current = currentOf (s .power) }
+unfoldable pub flatState : State → FlatState
+flatState s = record {
+  labels = s .labels;
+  disks = s .disks;
+  blocks = s .blocks;
+  online = s .online;
+  current = currentOf (s .power);
+}
 
 unfoldable pub flatAnswer : Answer → FlatAnswer
-flatAnswer a = record { state = flat (a .state); stores = a .stores; refusal = a .refusal }
+flatAnswer a = record { state = flatState (a .state); stores = a .stores; refusal = a .refusal }
 
 -- what a program outside sees of a call
-pub record Seen : Type 0 where
+pub record FlatOutcome : Type 0 where
   pub answer : FlatAnswer
   pub area : List ℕ
   pub output : List ℕ
 
-unfoldable pub seen : Outcome → Seen
-seen o = record { answer = flatAnswer (o .answer); area = o .area; output = o .output }
+unfoldable pub flatOutcome : Outcome → FlatOutcome
+flatOutcome o = record { answer = flatAnswer (o .answer); area = o .area; output = o .output }
 
 -- ---- one way of writing each
 
--- Every flat state stands for one state, and is that state's writing: what a call leaves as it was, it gives back as it was.
+-- Every flat state stands for one state, and is that state's writing: what a call leaves as it was, it gives back as
+-- it was.
 abbrev pub OpenedIsWritten : Type 0
-OpenedIsWritten = (f : FlatState) → flat (opened f) ≡ f
+OpenedIsWritten = (f : FlatState) → flatState (opened f) ≡ f
 
--- Every sound state is written as one that stands for it. (A running one with no current disk has no writing, and is not sound.)
+-- Every sound state is written as one that stands for it. (A running one with no current disk has no writing, and is
+-- not sound.)
 abbrev pub SoundIsWritten : Type 0
-SoundIsWritten = (s : State) → Sound s → opened (flat s) ≡ s
+SoundIsWritten = (s : State) → Sound s → opened (flatState s) ≡ s

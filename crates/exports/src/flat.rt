@@ -1,7 +1,7 @@
-// States and answers as programs in C and Rust hold them: numbers only, laid out as C does. The labels come first, and the
-// state in an answer: so compiled code copies them in pieces that start where they do.
+// States and answers as programs in C and Rust hold them: numbers only, laid out as C does. The labels come first,
+// and the state in an answer: so compiled code copies them in pieces that start where they do.
 ghost use mathlib.Core.Path.{_≡_};
-ghost use Rattle.exports.specs.Flat.{powerOf, opened, flat, flatAnswer};
+ghost use Rattle.exports.specs.Flat.{powerOf, opened, flatState, flatAnswer};
 use label::Label;
 use protocol::Answer;
 use protocol::Power;
@@ -9,8 +9,8 @@ use protocol::State;
 use sets::DISKS;
 use sets::Mask;
 
-// A state without its enum: `current` is G, and 0 when the cabinet is stopped. A running cabinet with no current disk is
-// not sound, so nothing is lost.
+// A state without its enum: `current` is G, and 0 when the cabinet is stopped. A running cabinet with no current disk
+// is not sound, so nothing is lost.
 #[repr(C)]
 pub struct FlatState {
     pub labels: [Label; DISKS],
@@ -51,8 +51,8 @@ pub(crate) fn opened(f: FlatState) -> State
     }
 }
 
-fn flat(s: State) -> FlatState
-    ensures { λ r. ⌜ r ≡ flat s ⌝ }
+fn flat_state(s: State) -> FlatState
+    ensures { λ r. ⌜ r ≡ flatState s ⌝ }
 {
     let labels = s.labels;
     let power = s.power;
@@ -70,7 +70,7 @@ pub(crate) fn flat_answer(answer: Answer) -> FlatAnswer
 {
     let s = answer.state;
     FlatAnswer {
-        state: flat(s),
+        state: flat_state(s),
         stores: answer.stores,
         refusal: answer.refusal,
     }

@@ -1,23 +1,25 @@
 -- What it says of a label that no refusal applies. Assumes nothing.
-use mathlib.Core.Path.{_≡_, sym}
+use mathlib.Core.Path.{_≡_, refl, sym}
 use mathlib.Core.Bool.{false, false≢true}
 use Prim.Native.Nat.{ℕ, _*_, _/_, _^_, _≤_, _<_}
 use native.Mathlib.Nat.{lt-of-lt-of-le}
 use native.Mathlib.Omega.{arith}
-use lib.Dec.{eqb, ltb, leb, lit<}
+use lib.Dec.{eqb, ltb, leb}
 use lib.Pow.{pow-pos, pow-mono}
 use lib.ListN.{length}
 use borrow.Author.Tests.{ltb-false, eqb-true, le-ltb, eq-eqb, not-false}
 use Rattle.sets.specs.Sets.{below}
 use Rattle.sets.proofs.Tests.{Test, passes, fails, test, or-parts}
 use Rattle.sets.proofs.Bounds.{below-pow}
-use Rattle.label.specs.Form.{Form, Roomy}
+use Rattle.refusals.specs.Refusals.{firstOf}
+use Rattle.refusals.proofs.Order.{none-at}
+use Rattle.label.specs.declared.Form.{Form}
+use Rattle.label.specs.Form.{Roomy}
 use Rattle.label.specs.Bytes.{labelLength, encode}
-use Rattle.label.specs.Refusals.{firstOf, outside, wrongSet, wrongSets}
+use Rattle.label.specs.Rules.{outside, wrongSet, wrongSets}
 use Rattle.label.specs.Reading.{emptyField, readRefusals, readRefusal}
 use Rattle.label.specs.Writing.{writeRefusals, writeRefusal}
 use Rattle.label.specs.declared.Label.{Label}
-use Rattle.label.proofs.Order.{none-of}
 
 -- the label of disk d of n as both calls want it
 pub record Proper (f : Form) (d n : ℕ) (l : Label) : Type 0 where
@@ -27,16 +29,15 @@ pub record Proper (f : Form) (d n : ℕ) (l : Label) : Type 0 where
 
 -- ---- the writer
 
-pub writer-accepts : (f : Form) (d n : ℕ) (l : Label) (room : ℕ) → writeRefusal f d n l room ≡ 0 → Proper f d n l × (length (encode f d n l) ≤ room)
+pub writer-accepts : (f : Form) (d n : ℕ) (l : Label) (room : ℕ) → writeRefusal f d n l room ≡ 0
+    → Proper f d n l × (length (encode f d n l) ≤ room)
 unfolding writeRefusal writeRefusals
 writer-accepts f d n l room e =
-    let count = none-of 4 _ _ (lit< tt) e in
-    let number = none-of 8 _ _ (lit< tt) (count .1) in
-    let sets = none-of 20 _ _ (lit< tt) (number .1) in
-    let fits = none-of 21 _ _ (lit< tt) (sets .1) in
-    (record { count = count .0; number = number .0; sets = sets .0 }, ltb-false _ _ (fits .0))
+    let passed = none-at (writeRefusals f d n l room) refl e in
+    (record { count = passed 0; number = passed 1; sets = passed 2 }, ltb-false _ _ (passed 3))
 
-pub accepted : (f : Form) (d n : ℕ) (l : Label) (room : ℕ) → Proper f d n l → length (encode f d n l) ≤ room → writeRefusal f d n l room ≡ 0
+pub accepted : (f : Form) (d n : ℕ) (l : Label) (room : ℕ) → Proper f d n l → length (encode f d n l) ≤ room
+    → writeRefusal f d n l room ≡ 0
 unfolding writeRefusal writeRefusals firstOf
 accepted f d n l room p h = rw (p .count, p .number, p .sets, le-ltb _ _ h)
 
@@ -45,7 +46,7 @@ accepted f d n l room p h = rw (p .count, p .number, p .sets, le-ltb _ _ h)
 -- what a string of so many bytes with these parts passed
 pub record Passed (f : Form) (len map d n : ℕ) (l : Label) : Type 0 where
   pub two : 2 ≤ len
-  pub fixed : map / 8 ≡ f .fixedBits
+  pub fixed : map / 8 ≡ f .fixed
   pub proper : Proper f d n l
   pub whole : labelLength f map ≤ len
   pub full : emptyField map l ≡ false
@@ -53,43 +54,47 @@ pub record Passed (f : Form) (len map d n : ℕ) (l : Label) : Type 0 where
 pub reader-passes : (f : Form) (len map d n : ℕ) (l : Label) → readRefusal f len map d n l ≡ 0 → Passed f len map d n l
 unfolding readRefusal readRefusals
 reader-passes f len map d n l e =
-    let two = none-of 16 _ _ (lit< tt) e in
-    let fixed = none-of 17 _ _ (lit< tt) (two .1) in
-    let place = none-of 18 _ _ (lit< tt) (fixed .1) in
-    let whole = none-of 16 _ _ (lit< tt) (place .1) in
-    let full = none-of 19 _ _ (lit< tt) (whole .1) in
-    let sets = none-of 20 _ _ (lit< tt) (full .1) in
-    let parts = or-parts (outside f n) (leb n d) (place .0) in
+    let passed = none-at (readRefusals f len map d n l) refl e in
+    let place = or-parts (outside f n) (leb n d) (passed 2) in
     record {
-      two = ltb-false _ _ (two .0);
-      fixed = eqb-true _ _ (not-false _ (fixed .0));
-      proper = record { count = parts .0; number = parts .1; sets = sets .0 };
-      whole = ltb-false _ _ (whole .0);
-      full = full .0;
+      two = ltb-false _ _ (passed 0);
+      fixed = eqb-true _ _ (not-false _ (passed 1));
+      proper = record { count = place .0; number = place .1; sets = passed 5 };
+      whole = ltb-false _ _ (passed 3);
+      full = passed 4;
     }
 
 pub passed : (f : Form) (len map d n : ℕ) (l : Label) → Passed f len map d n l → readRefusal f len map d n l ≡ 0
 unfolding readRefusal readRefusals firstOf
 passed f len map d n l p =
-    rw (le-ltb _ _ (p .two), eq-eqb _ _ (p .fixed), p .proper .count, p .proper .number, le-ltb _ _ (p .whole), p .full, p .proper .sets)
+    rw (
+      le-ltb _ _ (p .two),
+      eq-eqb _ _ (p .fixed),
+      p .proper .count,
+      p .proper .number,
+      le-ltb _ _ (p .whole),
+      p .full,
+      p .proper .sets,
+    )
 
 -- ---- what a proper label says in numbers
 
-pub in-range : (f : Form) (n : ℕ) → outside f n ≡ false → (1 ≤ n) × (n ≤ f .mostDisks)
+pub in-range : (f : Form) (n : ℕ) → outside f n ≡ false → (1 ≤ n) × (n ≤ f .most)
 unfolding outside
-in-range f n e = let p = or-parts (ltb n 1) (ltb (f .mostDisks) n) e in (ltb-false _ _ (p .0), ltb-false _ _ (p .1))
+in-range f n e = let p = or-parts (ltb n 1) (ltb (f .most) n) e in (ltb-false _ _ (p .0), ltb-false _ _ (p .1))
 
 -- a set that is not wrong fits the form's bytes
-set-fits : (f : Form) (s d n : ℕ) → Roomy f → n ≤ f .mostDisks → wrongSet s d n ≡ false → s < 2 ^ (8 * f .setBytes)
+set-fits : (f : Form) (s d n : ℕ) → Roomy f → n ≤ f .most → wrongSet s d n ≡ false → s < 2 ^ (8 * f .width)
 unfolding wrongSet
 set-fits f s d n r h e = go (test (eqb s 0)) (test (below s n))
   where
-    go : Test (eqb s 0) → Test (below s n) → s < 2 ^ (8 * f .setBytes)
-    go (passes z) b = rw (eqb-true s 0 z) (pow-pos (8 * f .setBytes))
+    go : Test (eqb s 0) → Test (below s n) → s < 2 ^ (8 * f .width)
+    go (passes z) b = rw (eqb-true s 0 z) (pow-pos (8 * f .width))
     go (fails z) (passes b) = lt-of-lt-of-le (below-pow s n .0 b) (pow-mono (omega (arith, r .sets)))
     go (fails z) (fails b) = absurd (false≢true (sym (rw (z, b) at e)))
 
-pub sets-fit : (f : Form) (d n : ℕ) (l : Label) → Roomy f → Proper f d n l → (l .committed < 2 ^ (8 * f .setBytes)) × (l .tentative < 2 ^ (8 * f .setBytes))
+pub sets-fit : (f : Form) (d n : ℕ) (l : Label) → Roomy f → Proper f d n l
+    → (l .committed < 2 ^ (8 * f .width)) × (l .tentative < 2 ^ (8 * f .width))
 unfolding wrongSets
 sets-fit f d n l r p =
     let each = or-parts (wrongSet (l .committed) d n) (wrongSet (l .tentative) d n) (p .sets) in

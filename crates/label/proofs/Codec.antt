@@ -4,7 +4,8 @@ use Prim.Native.Nat.{ℕ, zero, suc}
 use native.Mathlib.Nat.{le-refl}
 use native.Mathlib.Omega.{arith}
 use lib.ListN.{length, length-append}
-use Rattle.label.specs.Form.{Form, Roomy, narrow}
+use Rattle.label.specs.declared.Form.{Form}
+use Rattle.label.specs.Form.{Roomy, narrow}
 use Rattle.label.specs.Bytes.{mapByte, fieldBytes, encode, longestLabel}
 use Rattle.label.specs.Codec.{AreBytes, Writable, Readable, WrittenBytes, Lengths, Codec}
 use Rattle.label.proofs.Accepting.{accepted, writer-accepts}
@@ -21,26 +22,29 @@ bytes-append (x ∷ s) t hs ht (suc i) = bytes-append s t (λ j. hs (suc j)) ht 
 
 written-bytes : (f : Form) → Roomy f → WrittenBytes f
 unfolding encode mapByte Writable
-written-bytes f r d n l w zero = omega (arith, r .map, present-le (l .committed), present-le (l .tentative), present-le (l .dirty))
+written-bytes f r d n l w zero =
+    omega (arith, r .map, present-le (l .committed), present-le (l .tentative), present-le (l .dirty))
 written-bytes f r d n l w (suc zero) = place-bytes f d n l r (writer-accepts f d n l _ w .0) .2
 written-bytes f r d n l w (suc (suc i)) =
-    bytes-append (fieldBytes (f .setBytes) (l .committed)) (fieldBytes (f .setBytes) (l .tentative) ++ fieldBytes 1 (l .dirty))
-    (field-bytes (f .setBytes) (l .committed))
-    (bytes-append (fieldBytes (f .setBytes) (l .tentative)) (fieldBytes 1 (l .dirty)) (field-bytes (f .setBytes) (l .tentative)) (field-bytes 1 (l .dirty)))
+    bytes-append (fieldBytes (f .width) (l .committed))
+    (fieldBytes (f .width) (l .tentative) ++ fieldBytes 1 (l .dirty))
+    (field-bytes (f .width) (l .committed))
+    (bytes-append (fieldBytes (f .width) (l .tentative)) (fieldBytes 1 (l .dirty))
+    (field-bytes (f .width) (l .tentative)) (field-bytes 1 (l .dirty)))
     i
 
 lengths : (f : Form) → Lengths f
 unfolding encode longestLabel
 lengths f d n l =
-    let c = fieldBytes (f .setBytes) (l .committed) in
-    let t = fieldBytes (f .setBytes) (l .tentative) in
+    let c = fieldBytes (f .width) (l .committed) in
+    let t = fieldBytes (f .width) (l .tentative) in
     let d = fieldBytes 1 (l .dirty) in
     omega (
       arith,
       length-append c (t ++ d),
       length-append t d,
-      length-field-le (f .setBytes) (l .committed),
-      length-field-le (f .setBytes) (l .tentative),
+      length-field-le (f .width) (l .committed),
+      length-field-le (f .width) (l .tentative),
       length-field-le 1 (l .dirty),
     )
 
@@ -52,14 +56,19 @@ codec f r = record {
   read-alike = read-alike f;
   readable-iff-writable = λ d n l h. (
     λ (s, len, b, e). accepted f d n l _ (read-parts f s d n l len e .passes-all .proper) (le-refl _),
-    λ w. (encode f d n l, length (encode f d n l), written-bytes f r d n l w, rw append-nil at (written-reads f r d n l [] h w)),
+    λ w. (
+      encode f d n l,
+      length (encode f d n l),
+      written-bytes f r d n l w,
+      rw append-nil at (written-reads f r d n l [] h w),
+    ),
   );
   written-bytes = written-bytes f r;
   lengths = lengths f;
 }
 
 -- document 01's form
-pub narrow-roomy : Roomy narrow
+narrow-roomy : Roomy narrow
 narrow-roomy = omega arith
 
 pub narrow-codec : Codec narrow

@@ -1,5 +1,4 @@
--- The laws of labels: of every form, but for Stores, which is of document 01's.
-pub mod Order
+-- The laws of labels, of every form.
 pub mod Numbers
 pub mod Accepting
 pub mod Fields
@@ -8,5 +7,4 @@ pub mod WrittenRead
 pub mod ReadWritten
 pub mod Prefix
 pub mod Codec
-pub mod Splicing
 pub mod Stores

@@ -9,22 +9,24 @@ use lib.ListN.{length, getD, take, drop, length-take}
 use lib.Seq.{getD-take, getD-drop}
 use borrow.Author.Tests.{ltb-true, lt-ltb}
 use Rattle.sets.proofs.Tests.{same-test}
-use Rattle.label.specs.Form.{Form}
-use Rattle.label.specs.Bytes.{labelLength, value, fieldAt, fieldsOf}
+use Rattle.label.specs.declared.Form.{Form}
+use Rattle.label.specs.Bytes.{labelLength, fromLittleEndian, fieldAt, fieldsOf}
 use Rattle.label.specs.Reading.{readRefusals, readRefusal, judged, reading}
 use Rattle.label.specs.Codec.{ReadAlike}
 use Rattle.label.specs.declared.Label.{Label}
 
--- the value of k bytes depends on those alone
-value-alike : (k : ℕ) (s t : List ℕ) → ((i : ℕ) → i < k → getD s i 0 ≡ getD t i 0) → value k s ≡ value k t
-unfolding value
+-- the number in k bytes depends on those alone
+value-alike : (k : ℕ) (s t : List ℕ) → ((i : ℕ) → i < k → getD s i 0 ≡ getD t i 0)
+    → fromLittleEndian k s ≡ fromLittleEndian k t
+unfolding fromLittleEndian
 value-alike zero s t h = refl
 value-alike (suc k) s t h =
     ap₂ (λ (x y : ℕ). x + 256 * y) (h 0 (omega arith))
     (value-alike k (drop 1 s) (drop 1 t) (λ i l. rw (getD-drop 1 s i 0, getD-drop 1 t i 0) (h (1 + i) (omega arith))))
 
 -- a field within the first m bytes depends on those alone
-field-prefix : (s : List ℕ) (bit k at m : ℕ) → bit < 2 → at + k * bit ≤ m → fieldAt (take m s) bit k at ≡ fieldAt s bit k at
+field-prefix : (s : List ℕ) (bit k at m : ℕ) → bit < 2 → at + k * bit ≤ m
+    → fieldAt (take m s) bit k at ≡ fieldAt s bit k at
 unfolding fieldAt
 field-prefix s zero k at m h l = refl
 field-prefix s (suc zero) k at m h l =
@@ -37,9 +39,11 @@ fields-prefix : (f : Form) (s : List ℕ) (map : ℕ) → fieldsOf f (take (labe
 unfolding fieldsOf labelLength
 fields-prefix f s map =
     rw (
-      field-prefix s (map % 2) (f .setBytes) 2 (labelLength f map) (mod-lt map (lit< tt)) (omega arith),
-      field-prefix s (map / 2 % 2) (f .setBytes) (2 + f .setBytes * (map % 2)) (labelLength f map) (mod-lt _ (lit< tt)) (omega arith),
-      field-prefix s (map / 4 % 2) 1 (2 + f .setBytes * (map % 2) + f .setBytes * (map / 2 % 2)) (labelLength f map) (mod-lt _ (lit< tt)) (omega arith),
+      field-prefix s (map % 2) (f .width) 2 (labelLength f map) (mod-lt map (lit< tt)) (omega arith),
+      field-prefix s (map / 2 % 2) (f .width) (2 + f .width * (map % 2)) (labelLength f map) (mod-lt _ (lit< tt))
+          (omega arith),
+      field-prefix s (map / 4 % 2) 1 (2 + f .width * (map % 2) + f .width * (map / 2 % 2)) (labelLength f map)
+          (mod-lt _ (lit< tt)) (omega arith),
     )
 
 -- a bound of at most m asks the same of the first m bytes as of all
@@ -57,7 +61,10 @@ refusal-prefix : (f : Form) (s : List ℕ) (map d n : ℕ) (l : Label)
     → readRefusal f (length (take (labelLength f map) s)) map d n l ≡ readRefusal f (length s) map d n l
 unfolding readRefusal readRefusals
 refusal-prefix f s map d n l =
-    rw (short-prefix s (labelLength f map) 2 (at-least-two f map), short-prefix s (labelLength f map) (labelLength f map) (le-refl _))
+    rw (
+      short-prefix s (labelLength f map) 2 (at-least-two f map),
+      short-prefix s (labelLength f map) (labelLength f map) (le-refl _),
+    )
 
 read-prefix : (f : Form) (s : List ℕ) → reading f (take (labelLength f (getD s 0 0)) s) ≡ reading f s
 unfolding reading judged
@@ -75,5 +82,6 @@ read-alike f s t e =
     let two = at-least-two f (getD s 0 0) in
     let asked = labelLength f (getD s 0 0) in
     let same : getD t 0 0 ≡ getD s 0 0 =
-    sym (getD-take asked t 0 0 (omega arith)) ∙ ap (λ (x : List ℕ). getD x 0 0) (sym e) ∙ getD-take asked s 0 0 (omega arith) in
+    sym (getD-take asked t 0 0 (omega arith)) ∙ ap (λ (x : List ℕ). getD x 0 0) (sym e)
+    ∙ getD-take asked s 0 0 (omega arith) in
     sym (read-prefix f s) ∙ ap (reading f) e ∙ rw same at (read-prefix f t)

@@ -1,42 +1,37 @@
--- The writer's stores, one after the other, make the label's bytes: in document 01's form. Assumes nothing.
-use mathlib.Core.Path.{_≡_, refl, _∙_}
+-- The writer's stores, one after the other, make the label's bytes. Assumes nothing.
+use mathlib.Core.Path.{_≡_, refl}
 use mathlib.Core.List.{List, [], _∷_, _++_, append-assoc}
-use Prim.Native.Nat.{ℕ, _+_, _*_, _≤_}
-use native.Mathlib.Nat.{sub-zero}
+use Prim.Native.Nat.{ℕ, _+_, _≤_}
 use native.Mathlib.Omega.{arith}
-use lib.ListN.{length, set, length-append, length-set}
-use Rattle.label.specs.Form.{narrow}
-use Rattle.label.specs.Bytes.{present, mapByte, placeByte, fieldBytes, encode, labelLength}
-use Rattle.label.specs.Writing.{splice}
+use lib.ListN.{length, set, length-append}
+use Rattle.buffers.specs.Buffers.{Stored}
+use Rattle.buffers.proofs.Splicing.{splice-two, stored-after}
+use Rattle.label.specs.declared.Form.{Form}
 use Rattle.label.specs.declared.Label.{Label}
-use Rattle.label.proofs.Fields.{length-field}
-use Rattle.label.proofs.Places.{map-bits, encode-length}
-use Rattle.label.proofs.Splicing.{splice-one, splice-behind}
+use Rattle.label.specs.Bytes.{mapByte, placeByte, fieldBytes, encode}
 
-pub narrow-length : (d n : ℕ) (l : Label) → length (encode narrow d n l) ≡ 2 + present (l .committed) + present (l .tentative) + present (l .dirty)
-unfolding labelLength
-narrow-length d n l = encode-length narrow d n l ∙ omega (arith, map-bits narrow l)
+module _ (f : Form) (d n : ℕ) (l : Label) where
+  pub encode-parts : length (encode f d n l)
+      ≡ 2 + length (fieldBytes (f .width) (l .committed)) + length (fieldBytes (f .width) (l .tentative))
+      + length (fieldBytes 1 (l .dirty))
+  unfolding encode
+  encode-parts =
+      let t = fieldBytes (f .width) (l .tentative) in
+      let r = fieldBytes 1 (l .dirty) in
+      omega (arith, length-append (fieldBytes (f .width) (l .committed)) (t ++ r), length-append t r)
 
-pub stores-encode : (old : List ℕ) (d n : ℕ) (l : Label) → 2 ≤ length old
-    → splice (2 + present (l .committed) + present (l .tentative)) (fieldBytes 1 (l .dirty))
-    (splice (2 + present (l .committed)) (fieldBytes 1 (l .tentative))
-    (splice 2 (fieldBytes 1 (l .committed)) (set (set old 0 (mapByte narrow l)) 1 (d + 16 * n))))
-    ≡ splice 0 (encode narrow d n l) old
-unfolding encode placeByte
-stores-encode old d n l h =
-    let map = mapByte narrow l in
-    let place = d + 16 * n in
-    let c = fieldBytes 1 (l .committed) in
-    let t = fieldBytes 1 (l .tentative) in
-    let long = length-field 1 (l .committed) in
-    rw (
-      splice-one (set old 0 map) 1 place (rw length-set (omega arith)),
-      splice-one old 0 map (omega arith),
-      splice-behind old (map ∷ []) (place ∷ []) 1 refl,
-      splice-behind old (map ∷ place ∷ []) c 2 refl,
-      splice-behind old (map ∷ place ∷ c) t (2 + present (l .committed)) (omega arith),
-      splice-behind old (map ∷ place ∷ (c ++ t)) (fieldBytes 1 (l .dirty)) (2 + present (l .committed) + present (l .tentative))
-          (omega (arith, length-append c t, length-field 1 (l .tentative))),
-      append-assoc c t (fieldBytes 1 (l .dirty)),
-      sub-zero n,
-    )
+  -- the map and the place, then field by field
+  pub stores-encode : (old : List ℕ) {r₁ r₂ r₃ : ℕ} {o₁ o₂ o₃ : List ℕ} → 2 ≤ length old
+      → Stored 2 (fieldBytes (f .width) (l .committed)) (set (set old 0 (mapByte f l)) 1 (placeByte f d n)) r₁ o₁
+      → Stored r₁ (fieldBytes (f .width) (l .tentative)) o₁ r₂ o₂ → Stored r₂ (fieldBytes 1 (l .dirty)) o₂ r₃ o₃
+      → Stored 0 (encode f d n l) old r₃ o₃
+  unfolding encode
+  stores-encode old h first second third =
+      let front = mapByte f l ∷ placeByte f d n ∷ [] in
+      let place : Stored 0 front old 2 (set (set old 0 (mapByte f l)) 1 (placeByte f d n)) =
+      (refl, splice-two old 0 (mapByte f l) (placeByte f d n) (omega arith)) in
+      let all = stored-after old _ (fieldBytes 1 (l .dirty)) 0 (omega arith)
+      (stored-after old _ (fieldBytes (f .width) (l .tentative)) 0 (omega arith)
+      (stored-after old _ (fieldBytes (f .width) (l .committed)) 0 (omega arith) place first) second) third in
+      rw (append-assoc (fieldBytes (f .width) (l .committed)) (fieldBytes (f .width) (l .tentative))
+      (fieldBytes 1 (l .dirty))) at all

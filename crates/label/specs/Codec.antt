@@ -1,10 +1,10 @@
--- What reading and writing promise of each other, for any form: "labels to bytes and back, one way of writing each".
+-- What reading and writing promise of each other, for any form: labels to bytes and back, one way of writing each.
 use mathlib.Core.Path.{_≡_}
 use mathlib.Core.Logic.{_↔_}
 use mathlib.Core.List.{List, _++_}
 use Prim.Native.Nat.{ℕ, _≤_, _<_}
 use lib.ListN.{length, getD, take}
-use Rattle.label.specs.Form.{Form}
+use Rattle.label.specs.declared.Form.{Form}
 use Rattle.label.specs.Bytes.{encode, longestLabel, labelLength}
 use Rattle.label.specs.Reading.{reading, found}
 use Rattle.label.specs.Writing.{writeRefusal}
@@ -34,7 +34,9 @@ OneWay f = (s : List ℕ) (d n : ℕ) (l : Label) (len : ℕ) → AreBytes s →
 
 -- "what follows is not read": strings that agree on as many bytes as the map asks are read alike, refused or not.
 abbrev pub ReadAlike : Form → Type 0
-ReadAlike f = (s t : List ℕ) → take (labelLength f (getD s 0 0)) s ≡ take (labelLength f (getD s 0 0)) t → reading f s ≡ reading f t
+ReadAlike f =
+    (s t : List ℕ) → take (labelLength f (getD s 0 0)) s ≡ take (labelLength f (getD s 0 0)) t
+    → reading f s ≡ reading f t
 
 -- A readable label is one that the writer accepts, and the other way round.
 abbrev pub ReadableIffWritable : Form → Type 0

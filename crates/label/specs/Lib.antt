@@ -1,7 +1,7 @@
 -- Document 01, "Label bytes" and the paragraphs on labels of "What each call refuses".
 pub mod Form
 pub mod Bytes
-pub mod Refusals
+pub mod Rules
 pub mod Reading
 pub mod Writing
 pub mod Codec

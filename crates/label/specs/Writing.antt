@@ -1,13 +1,14 @@
 -- Document 01, "Label writing".
-use mathlib.Core.Path.{_≡_}
 use mathlib.Core.Bool.{Bool, cond}
-use mathlib.Core.List.{List, [], _∷_, _++_}
-use Prim.Native.Nat.{ℕ, _+_}
+use mathlib.Core.List.{List, [], _∷_}
+use Prim.Native.Nat.{ℕ}
 use lib.Dec.{eqb, ltb, leb}
-use lib.ListN.{length, take, drop}
-use Rattle.label.specs.Form.{Form}
+use lib.ListN.{length}
+use Rattle.label.specs.declared.Form.{Form}
 use Rattle.label.specs.Bytes.{encode}
-use Rattle.label.specs.Refusals.{firstOf, outside, wrongSets}
+use Rattle.buffers.specs.Buffers.{splice}
+use Rattle.refusals.specs.Refusals.{firstOf}
+use Rattle.label.specs.Rules.{outside, wrongSets}
 use Rattle.label.specs.declared.Label.{Label}
 use Rattle.label.specs.declared.Written.{Written}
 
@@ -26,15 +27,10 @@ writeRefusal f d n l room = firstOf (writeRefusals f d n l room)
 -- "It yields the label's length, 0 if refused"
 unfoldable pub written : Form → ℕ → ℕ → Label → ℕ → Written
 written f d n l room =
-    record { refusal = writeRefusal f d n l room; length = cond (eqb (writeRefusal f d n l room) 0) (length (encode f d n l)) 0 }
-
--- a list whose elements from a place on are replaced by those of another
-unfoldable pub splice : ℕ → List ℕ → List ℕ → List ℕ
-splice at new old = take at old ++ (new ++ drop (at + length new) old)
-
--- these bytes are stored in a buffer at a place: the place behind them, and the buffer afterwards
-abbrev pub Stored : ℕ → List ℕ → List ℕ → ℕ → List ℕ → Type 0
-Stored at new old behind after = (behind ≡ at + length new) × (after ≡ splice at new old)
+    record {
+      refusal = writeRefusal f d n l room;
+      length = cond (eqb (writeRefusal f d n l room) 0) (length (encode f d n l)) 0;
+    }
 
 -- "bytes beyond the label stay"; refused, "no change in the state or any buffer"
 unfoldable pub writtenBytes : Form → ℕ → ℕ → Label → List ℕ → List ℕ

@@ -1,49 +1,72 @@
 // Reading a label out of bytes.
 ghost use mathlib.Core.Path.{_≡_};
-ghost use lib.ListN.{getD};
-ghost use Rattle.label.specs.Form.{narrow};
-ghost use Rattle.label.specs.Bytes.{fieldAt, fieldsOf};
+ghost use Prim.Native.Nat.{_≤_, _<_};
+ghost use lib.ListN.{getD, drop};
+ghost use Rattle.label.specs.Form.{Coded};
+ghost use Rattle.label.specs.Bytes.{fromLittleEndian, fieldAt, fieldsOf};
 ghost use Rattle.label.specs.Reading.{emptyField, readRefusal, judged, reading};
+use crate::Form;
 use crate::Label;
 use crate::Reading;
-use crate::refusal::LABEL_CUT_SHORT;
-use crate::refusal::LABEL_EMPTY_FIELD;
-use crate::refusal::LABEL_MAP;
-use crate::refusal::LABEL_PLACE;
-use crate::refusal::LABEL_SET;
-use crate::refusal::or_else;
+use crate::blank;
+use crate::rules::field_length;
 use crate::rules::label_length;
 use crate::rules::outside;
 use crate::rules::wrong_sets;
+use refusals::PASSED;
+use refusals::Refusal;
+use refusals::first_of;
+use refusals::numbers::LABEL_CUT_SHORT;
+use refusals::numbers::LABEL_EMPTY_FIELD;
+use refusals::numbers::LABEL_MAP;
+use refusals::numbers::LABEL_PLACE;
+use refusals::numbers::LABEL_SET;
+use sets::DISKS;
 
-// The byte at a place, 0 past the end: every part of a label can then be fetched before the first refusal is looked for.
+// The byte at a place, 0 past the end: every part of a label can then be fetched before the
+// first refusal is looked for.
 fn byte_at(bytes: &[u8], at: usize) -> u8
     ensures { λ r. ⌜ r ≡ getD (now (bytes .entry)) at 0 ⌝ }
 {
     if at < bytes.len() { bytes[at] } else { 0 }
 }
 
+// The number in one byte or two from a place on, low byte first.
+fn number_at(bytes: &[u8], width: usize, at: usize) -> u16
+    requires { ⌜ (1 ≤ width) × (width ≤ 2) × (at < 16) ⌝ }
+    ensures { λ r. ⌜ r ≡ fromLittleEndian width (drop at (now (bytes .entry))) ⌝ }
+{
+    let low = byte_at(bytes, at) as u16;
+    if width == 1 {
+        low
+    } else {
+        low + 256 * byte_at(bytes, at + 1) as u16
+    }
+}
+
 // The field at a place whose bit of the map is given, 0 where that does not stand.
-fn field(bytes: &[u8], bit: u8, at: u8) -> u8
-    ensures { λ r. ⌜ r ≡ fieldAt (now (bytes .entry)) bit 1 at ⌝ }
+fn field(bytes: &[u8], bit: u8, width: usize, at: usize) -> u16
+    requires { ⌜ (1 ≤ width) × (width ≤ 2) × (at < 16) ⌝ }
+    ensures { λ r. ⌜ r ≡ fieldAt (now (bytes .entry)) bit width at ⌝ }
 {
     if bit == 1 {
-        byte_at(bytes, at as usize)
+        number_at(bytes, width, at)
     } else {
         0
     }
 }
 
-fn fields(bytes: &[u8], map: u8) -> Label
-    ensures { λ r. ⌜ r ≡ fieldsOf narrow (now (bytes .entry)) map ⌝ }
+fn fields(form: Form, bytes: &[u8], map: u8) -> Label
+    requires { do ⌜ Coded (← ⟦DISKS⟧) form ⌝ }
+    ensures { λ r. ⌜ r ≡ fieldsOf form (now (bytes .entry)) map ⌝ }
 {
-    let first = 2;
-    let second = first + map % 2;
-    let third = second + map / 2 % 2;
+    let width = form.width;
+    let second = 2 + field_length(width, map % 2);
+    let third = second + field_length(width, map / 2 % 2);
     Label {
-        committed: field(bytes, map % 2, first),
-        tentative: field(bytes, map / 2 % 2, second),
-        dirty: field(bytes, map / 4 % 2, third),
+        committed: sets::from_number(field(bytes, map % 2, width, 2)),
+        tentative: sets::from_number(field(bytes, map / 2 % 2, width, second)),
+        dirty: field(bytes, map / 4 % 2, 1, third) as u8,
     }
 }
 
@@ -57,57 +80,59 @@ fn empty_field(map: u8, label: Label) -> bool
 }
 
 // The first refusal that applies to `length` bytes with these parts, 0 if none does.
-fn read_refusal(length: usize, map: u8, number: usize, disks: usize, label: Label) -> u8
-    ensures { λ r. ⌜ r ≡ readRefusal narrow length map number disks label ⌝ }
+fn read_refusal(form: Form, length: usize, map: u8, number: usize, disks: usize, label: Label) -> u8
+    requires { ⌜ form .width ≤ 2 ⌝ }
+    ensures { λ r. ⌜ r ≡ readRefusal form length map number disks label ⌝ }
 {
-    let place = outside(disks) | (disks <= number);
-    let needed = label_length(map);
+    let count = outside(form, disks);
+    let needed = label_length(form, map);
     let empty = empty_field(map, label);
     let sets = wrong_sets(label, number, disks);
-    let first = or_else(0, length < 2, LABEL_CUT_SHORT);
-    let first = or_else(first, map / 8 != 0, LABEL_MAP);
-    let first = or_else(first, place, LABEL_PLACE);
-    let first = or_else(first, length < needed, LABEL_CUT_SHORT);
-    let first = or_else(first, empty, LABEL_EMPTY_FIELD);
-    or_else(first, sets, LABEL_SET)
+    first_of([
+        Refusal(LABEL_CUT_SHORT, length < 2),
+        Refusal(LABEL_MAP, map / 8 != form.fixed),
+        Refusal(LABEL_PLACE, count | (disks <= number)),
+        Refusal(LABEL_CUT_SHORT, length < needed),
+        Refusal(LABEL_EMPTY_FIELD, empty),
+        Refusal(LABEL_SET, sets),
+        PASSED,
+        PASSED,
+    ])
 }
 
 // What these parts yield: the label, or nothing but the refusal's number.
-fn judge(length: usize, map: u8, number: usize, disks: usize, label: Label) -> Reading
-    ensures { λ r. ⌜ r ≡ judged narrow length map number disks label ⌝ }
+fn judge(form: Form, length: usize, map: u8, number: usize, disks: usize, label: Label) -> Reading
+    requires { ⌜ form .width ≤ 2 ⌝ }
+    ensures { λ r. ⌜ r ≡ judged form length map number disks label ⌝ }
 {
-    let refusal = read_refusal(length, map, number, disks, label);
+    let refusal = read_refusal(form, length, map, number, disks, label);
     if refusal == 0 {
         Reading {
             refusal: 0,
             number: number,
             disks: disks,
             label: label,
-            length: label_length(map),
+            length: label_length(form, map),
         }
     } else {
         Reading {
             refusal: refusal,
             number: 0,
             disks: 0,
-            label: Label {
-                committed: 0,
-                tentative: 0,
-                dirty: 0,
-            },
+            label: blank(),
             length: 0,
         }
     }
 }
 
-// The label that the bytes start with. What follows it is not read.
-pub fn read(bytes: &[u8]) -> Reading
-    ensures { λ r. ⌜ r ≡ reading narrow (now (bytes .entry)) ⌝ }
+pub(crate) fn read_as(form: Form, bytes: &[u8]) -> Reading
+    requires { do ⌜ Coded (← ⟦DISKS⟧) form ⌝ }
+    ensures { λ r. ⌜ r ≡ reading form (now (bytes .entry)) ⌝ }
 {
     let map = byte_at(bytes, 0);
     let place = byte_at(bytes, 1);
     let number = (place % 16) as usize;
-    let disks = (place / 16) as usize;
-    let label = fields(bytes, map);
-    judge(bytes.len(), map, number, disks, label)
+    let disks = (place / 16) as usize + form.base;
+    let label = fields(form, bytes, map);
+    judge(form, bytes.len(), map, number, disks, label)
 }

@@ -7,7 +7,8 @@ use Rattle.protocol.specs.Finder.{another}
 use Rattle.naming.specs.Meaning.{isOne}
 
 -- found again or not, nothing changes
-pub found-again : (found : Found) (x : ℕ) (fits : Bool) → isOne found x ≡ true → found ≡ cond fits (another found x) found
+pub found-again : (found : Found) (x : ℕ) (fits : Bool) → isOne found x ≡ true
+    → found ≡ cond fits (another found x) found
 unfolding isOne another
 found-again none x fits e = absurd (false≢true e)
 found-again (one y) x true e = rw e

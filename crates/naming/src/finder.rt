@@ -42,8 +42,8 @@ fn is_one(found: Naming, x: Mask) -> bool
     }
 }
 
-// The same for a set that is not known to be one. Where it is the one that was found it need not be tried again: mostly the
-// labels of all disks have the same.
+// The same for a set that is not known to be one. Where it is the one that was found it need not be tried again: mostly
+// the labels of all disks have the same.
 fn and_tried(
     found: Naming,
     stage: Stage,
@@ -53,7 +53,8 @@ fn and_tried(
     x: Mask,
 ) -> Naming
     requires { do ⌜ disks ≤ (← ⟦DISKS⟧) ⌝ }
-    ensures { λ r. ⌜ foundOf r ≡ cond (candidate (stageOf stage) disks online labels x) (another (foundOf found) x) (foundOf found) ⌝ }
+    ensures { λ r. ⌜ foundOf r
+        ≡ cond (candidate (stageOf stage) disks online labels x) (another (foundOf found) x) (foundOf found) ⌝ }
 {
     if is_one(found, x) {
         return found;
@@ -85,8 +86,8 @@ fn or_later(found: Naming, later: Naming) -> Naming
     }
 }
 
-// "The first stage with a candidate decides: one candidate is the set, more than one is refused with 14. No candidate in
-// any stage is 13." A sound state is within both bounds.
+// "The first stage with a candidate decides: one candidate is the set, more than one is refused with 14. No candidate
+// in any stage is 13." A sound state is within both bounds.
 pub fn named(disks: usize, online: Mask, labels: [Label; DISKS]) -> Naming
     requires { do ⌜ (disks ≤ (← ⟦DISKS⟧)) × (online < 2 ^ disks) ⌝ }
     ensures { λ r. ⌜ foundOf r ≡ named disks online labels ⌝ }

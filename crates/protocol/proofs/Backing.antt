@@ -1,5 +1,5 @@
--- The sets that labels back, and what they leave a restart to name. Every candidate of every stage is backed, so what limits the backed sets limits what
--- a restart can name, whichever disks are in reach. Assumes nothing.
+-- The sets that labels back, and what they leave a restart to name. Every candidate of every stage is backed, so what
+-- limits the backed sets limits what a restart can name, whichever disks are in reach. Assumes nothing.
 use mathlib.Core.Path.{_≡_, refl, sym, _∙_}
 use mathlib.Core.Logic.{inl, inr}
 use mathlib.Core.Bool.{true, false}
@@ -7,36 +7,23 @@ use mathlib.Core.List.{List}
 use Prim.Native.Nat.{ℕ, _^_, _<_}
 use lib.Dec.{eqb}
 use borrow.Author.Tests.{eqb-true, eq-eqb, lt-ltb}
-use Rattle.sets.specs.Sets.{has, all, below}
+use Rattle.sets.specs.Sets.{has, all}
 use Rattle.sets.proofs.Tests.{Test, passes, fails, test, clash}
 use Rattle.sets.proofs.Operations.{has-all}
-use Rattle.sets.proofs.Bounds.{member-below, below-pow}
-use Rattle.sets.proofs.LowestMember.{lowest-has}
+use Rattle.sets.proofs.Bounds.{member-below}
 use Rattle.label.specs.declared.Label.{Label}
 use Rattle.protocol.specs.Loops.{some}
-use Rattle.protocol.specs.States.{labelAt, source}
-use Rattle.protocol.specs.Naming.{Stage, first, second, third, Found, none, one, several, Backs, Candidate, Exactly, no-set, one-set, several-sets, Decides, here, further, nowhere, Names}
+use Rattle.protocol.specs.States.{labelAt, committedAt, tentativeAt, source}
+use Rattle.protocol.specs.Naming.{Stage, first, second, third, Found, none, one, several}
+use Rattle.protocol.specs.Naming.{Backs, Candidate, Exactly, no-set, one-set, several-sets}
+use Rattle.protocol.specs.Naming.{Decides, here, further, nowhere, Names}
 use Rattle.protocol.proofs.Loops.{some-member, some-not}
-
-abbrev pub committedAt : List Label → ℕ → ℕ
-committedAt labels d = (labelAt labels d) .committed
-
-abbrev pub tentativeAt : List Label → ℕ → ℕ
-tentativeAt labels d = (labelAt labels d) .tentative
+use Rattle.protocol.proofs.States.{source-has}
 
 -- every member has the set as its T or its C
 pub record Backed (labels : List Label) (x : ℕ) : Type 0 where
   pub filled : 0 < x
   pub each : (d : ℕ) → has x d ≡ true → Backs second (labelAt labels d) x
-
--- the copy source of a set is a member of it
-pub source-has : (x : ℕ) → 0 < x → has x (source x) ≡ true
-unfolding source
-source-has = lowest-has
-
--- so it is below n
-pub source-known : (n set : ℕ) → 0 < set → below set n ≡ true → source set < n
-source-known n set filled known = member-below set n (source set) (below-pow set n .0 known) (source-has set filled)
 
 -- ---- labels of a running cabinet, and of one that may be restarted
 
@@ -47,8 +34,8 @@ pub record Agreed (n : ℕ) (labels : List Label) (g : ℕ) : Type 0 where
   pub members : (d : ℕ) → has g d ≡ true → (committedAt labels d ≡ g) × (tentativeAt labels d ≡ 0)
   pub only : (x : ℕ) → Backed labels x → x ≡ g
 
--- some set is backed, and all that are share a disk, the anchor, so each is the anchor's own C or T. Where one of them is both the anchor's C and some
--- member's T, there is no other.
+-- some set is backed, and all that are share a disk, the anchor, so each is the anchor's own C or T. Where one of them
+-- is both the anchor's C and some member's T, there is no other.
 pub record Recoverable (n : ℕ) (labels : List Label) : Type 0 where
   pub anchor : ℕ
   pub anchored : (x : ℕ) → Backed labels x → has x anchor ≡ true
@@ -73,14 +60,16 @@ agreed-recoverable {g = g} h =
 
 -- ---- what a restart finds
 
-candidate-backed : (stage : Stage) {online : ℕ} {labels : List Label} {x : ℕ} → Candidate stage online labels x → Backed labels x
+pub candidate-backed : (stage : Stage) {online : ℕ} {labels : List Label} {x : ℕ} → Candidate stage online labels x
+    → Backed labels x
 candidate-backed first c = record { filled = c .filled; each = λ d m. inl (c .each d m) }
 candidate-backed second c = record { filled = c .filled; each = c .each }
 candidate-backed third c = record { filled = c .filled; each = λ d m. inr (c .each d m) }
 
 module _ {n : ℕ} {labels : List Label} (rec : Recoverable n labels) where
   -- a stage has no two candidates
-  unique : (stage : Stage) {online : ℕ} (x y : ℕ) → Candidate stage online labels x → Candidate stage online labels y → x ≡ y
+  unique : (stage : Stage) {online : ℕ} (x y : ℕ) → Candidate stage online labels x → Candidate stage online labels y
+      → x ≡ y
   unique stage x y p q = go stage p q (at-anchor stage p) (at-anchor stage q)
     where
       a : ℕ
@@ -90,7 +79,8 @@ module _ {n : ℕ} {labels : List Label} (rec : Recoverable n labels) where
       at-anchor stage {z = z} c = c .each a (rec .anchored z (candidate-backed stage c))
 
       -- one is the anchor's C, and proposed
-      wins : {online z v : ℕ} → Candidate second online labels z → Candidate second online labels v → committedAt labels a ≡ z → v ≡ z
+      wins : {online z v : ℕ} → Candidate second online labels z → Candidate second online labels v
+          → committedAt labels a ≡ z → v ≡ z
       wins {z = z} {v = v} c d e =
           let (m, h, t) = c .proposed in
           rec .decided m (rw e h) (t ∙ sym e) v (candidate-backed second d) ∙ e
@@ -112,7 +102,8 @@ module _ {n : ℕ} {labels : List Label} (rec : Recoverable n labels) where
   never-several (further e h) = never-several h
 
   -- a backed set is a candidate of some stage where all disks are in reach
-  no-candidate : Exactly (Candidate second (all n) labels) none → Exactly (Candidate third (all n) labels) none → (x : ℕ) → Backed labels x → ⊥
+  no-candidate : Exactly (Candidate second (all n) labels) none → Exactly (Candidate third (all n) labels) none
+      → (x : ℕ) → Backed labels x → ⊥
   no-candidate (no-set e2) (no-set e3) x p = go (test (some n x (λ d. eqb (tentativeAt labels d) x)))
     where
       in-reach : (d : ℕ) → has x d ≡ true → d < n
@@ -121,7 +112,8 @@ module _ {n : ℕ} {labels : List Label} (rec : Recoverable n labels) where
       inside : (d : ℕ) → has x d ≡ true → has (all n) d ≡ true
       inside d m = has-all n d ∙ lt-ltb d n (in-reach d m)
 
-      committed : some n x (λ d. eqb (tentativeAt labels d) x) ≡ false → (d : ℕ) → has x d ≡ true → Backs second (labelAt labels d) x → committedAt labels d ≡ x
+      committed : some n x (λ d. eqb (tentativeAt labels d) x) ≡ false → (d : ℕ) → has x d ≡ true
+          → Backs second (labelAt labels d) x → committedAt labels d ≡ x
       committed f d m (inl e) = clash (eq-eqb _ _ e) (some-not n x _ f d (in-reach d m) m)
       committed f d m (inr e) = e
 
@@ -130,22 +122,26 @@ module _ {n : ℕ} {labels : List Label} (rec : Recoverable n labels) where
           let (d, l, m, t) = some-member n x _ e in
           e2 x (record { filled = p .filled; inside = inside; each = p .each; proposed = (d, m, eqb-true _ _ t) })
       go (fails e) =
-          e3 x (record { filled = p .filled; inside = inside; each = λ d m. committed e d m (p .each d m); proposed = (source x, source-has x (p .filled), tt) })
+          e3 x (record {
+            filled = p .filled;
+            inside = inside;
+            each = λ d m. committed e d m (p .each d m);
+            proposed = (source x, source-has x (p .filled), tt);
+          })
 
   -- with all disks in reach it finds one
   pub finds-one : (f : Found) → Names (all n) labels f → (x : ℕ) × (f ≡ one x)
   finds-one none (here f e) = absurd (f refl)
   finds-one none (further e1 (here f e)) = absurd (f refl)
   finds-one none (further e1 (further e2 (here f e))) = absurd (f refl)
-  finds-one none (further e1 (further e2 (further e3 nowhere))) = absurd (no-candidate e2 e3 (rec .some-set .0) (rec .some-set .1))
+  finds-one none (further e1 (further e2 (further e3 nowhere))) =
+      absurd (no-candidate e2 e3 (rec .some-set .0) (rec .some-set .1))
   finds-one (one x) h = (x, refl)
   finds-one several h = absurd (never-several h)
 
--- what it finds is a candidate of some stage, and backed
-pub found-candidate : {online : ℕ} {labels : List Label} {stages : List Stage} {x : ℕ} → Decides online labels stages (one x)
+-- what it finds is a candidate of some stage
+pub found-candidate : {online : ℕ} {labels : List Label} {stages : List Stage} {x : ℕ}
+    → Decides online labels stages (one x)
     → (stage : Stage) × Candidate stage online labels x
 found-candidate (here {stage} f (one-set p u)) = (stage, p)
 found-candidate (further e h) = found-candidate h
-
-pub found-backed : {online : ℕ} {labels : List Label} {x : ℕ} → Names online labels (one x) → Backed labels x
-found-backed h = let (stage, c) = found-candidate h in candidate-backed stage c

@@ -12,11 +12,12 @@ use Rattle.sets.specs.Sets.{has, union, singleton}
 use Rattle.sets.proofs.Tests.{and-parts, same-or-not}
 use Rattle.sets.proofs.Operations.{has-union, has-difference, has-singleton}
 use Rattle.label.specs.declared.Label.{Label}
-use Rattle.protocol.specs.States.{blank, labelAt, isDirty}
-use Rattle.protocol.specs.Stores.{Disks, mark, clear, propose, commit, withDirty, apply, applyAll}
+use Rattle.label.specs.Bytes.{blank}
+use Rattle.protocol.specs.States.{labelAt, committedAt, tentativeAt, isDirty}
+use Rattle.protocol.specs.Stores.{Disks, mark, clear, propose, commit, withDirty, withCommitted, apply, applyAll}
 use Rattle.protocol.specs.Lists.{proposals, commits, moveToLive}
-use Rattle.protocol.proofs.ListStores.{each-live}
-use Rattle.protocol.proofs.Runs.{keeps, made-members}
+use Rattle.protocol.proofs.Lists.{each-live}
+use Rattle.protocol.proofs.Stores.{keeps, made-members}
 
 -- what holds of the new label of d, and of each other label, holds of each label afterwards
 pub at-set : (Q : ℕ → Label → Type 0) (labels : List Label) (d : ℕ) (l : Label) → d < length labels
@@ -40,9 +41,18 @@ field-set f (x ∷ labels) (suc d) l q (suc e) = field-set f labels d l q e
 
 module _ (b d r : ℕ) (w : Disks) (room : d < length (w .labels)) where
   -- a mark makes its bit stand, and clears none
-  pub mark-stands : isDirty (apply b (mark d r) w .labels) d r ≡ true
+  pub mark-sets : isDirty (apply b (mark d r) w .labels) d r ≡ true
   unfolding apply
-  mark-stands = rw (getD-set-same (w .labels) d (withDirty (labelAt (w .labels) d) (union ((labelAt (w .labels) d) .dirty) (singleton r))) blank room, has-union, has-singleton, eq-eqb r r refl) (or-true (isDirty (w .labels) d r))
+  mark-sets =
+      rw (
+        getD-set-same (w .labels) d
+            (withDirty (labelAt (w .labels) d)
+            (union ((labelAt (w .labels) d) .dirty) (singleton r))) blank room,
+        has-union,
+        has-singleton,
+        eq-eqb r r refl,
+      )
+      (or-true (isDirty (w .labels) d r))
 
   pub mark-keeps : (e q : ℕ) → isDirty (w .labels) e q ≡ true → isDirty (apply b (mark d r) w .labels) e q ≡ true
   unfolding apply
@@ -53,20 +63,23 @@ module _ (b d r : ℕ) (w : Disks) (room : d < length (w .labels)) where
   pub clear-keeps : (e q : ℕ) → isDirty (apply b (clear d r) w .labels) e q ≡ true → isDirty (w .labels) e q ≡ true
   unfolding apply
   clear-keeps e q = at-set (λ i l. has (l .dirty) q ≡ true → isDirty (w .labels) i q ≡ true) (w .labels) d _ room
-      (λ h. and-parts (isDirty (w .labels) d q) _ (sym (has-difference ((labelAt (w .labels) d) .dirty) (singleton r) q) ∙ h) .0) (λ i ne h. h) e
+      (λ h. and-parts (isDirty (w .labels) d q) _
+      (sym (has-difference ((labelAt (w .labels) d) .dirty) (singleton r) q) ∙ h) .0) (λ i ne h. h) e
 
 -- a move leaves them
-pub move-dirty : (b n g l : ℕ) (w : Disks) (e : ℕ) → (labelAt (applyAll b (moveToLive n g l) w .labels) e) .dirty ≡ (labelAt (w .labels) e) .dirty
-move-dirty b n g l w e = keeps b Same (each-live n l (λ d i m v. propose-same d v) (λ d i m v. commit-same d v) g) w refl
+pub move-dirty : (b n g l : ℕ) (w : Disks) (e : ℕ)
+    → (labelAt (applyAll b (moveToLive n g l) w .labels) e) .dirty ≡ (labelAt (w .labels) e) .dirty
+move-dirty b n g l w e =
+    keeps b Kept (each-live n l (λ d i m v. propose-keeps d v) (λ d i m v. commit-keeps d v) g) w refl
   where
-    Same : Disks → Type 0
-    Same v = (labelAt (v .labels) e) .dirty ≡ (labelAt (w .labels) e) .dirty
+    Kept : Disks → Type 0
+    Kept v = (labelAt (v .labels) e) .dirty ≡ (labelAt (w .labels) e) .dirty
 
-    propose-same : (d : ℕ) (v : Disks) → Same v → Same (apply b (propose d l) v)
-    propose-same d v q = unfold apply in field-set (λ x. x .dirty) (v .labels) d _ refl e ∙ q
+    propose-keeps : (d : ℕ) (v : Disks) → Kept v → Kept (apply b (propose d l) v)
+    propose-keeps d v q = unfold apply in field-set (λ x. x .dirty) (v .labels) d _ refl e ∙ q
 
-    commit-same : (d : ℕ) (v : Disks) → Same v → Same (apply b (commit d l) v)
-    commit-same d v q = unfold apply in field-set (λ x. x .dirty) (v .labels) d _ refl e ∙ q
+    commit-keeps : (d : ℕ) (v : Disks) → Kept v → Kept (apply b (commit d l) v)
+    commit-keeps d v q = unfold apply in field-set (λ x. x .dirty) (v .labels) d _ refl e ∙ q
 
 -- ---- whole moves
 
@@ -74,22 +87,27 @@ module _ (b n s : ℕ) (w : Disks) (room : n ≤ length (w .labels)) where
   abbrev Room : Disks → Type 0
   Room v = n ≤ length (v .labels)
 
-  pub proposed : (d : ℕ) → d < n → has s d ≡ true → (labelAt (applyAll b (proposals n s) w .labels) d) .tentative ≡ s
+  pub proposed : (d : ℕ) → d < n → has s d ≡ true → tentativeAt (applyAll b (proposals n s) w .labels) d ≡ s
   unfolding proposals apply
-  proposed = made-members b (λ d. propose d s) s Room (λ d v. (labelAt (v .labels) d) .tentative ≡ s) n
+  proposed = made-members b (λ d. propose d s) s Room (λ d v. tentativeAt (v .labels) d ≡ s) n
       (λ d l m v k. (rw length-set k, ap (λ x. x .tentative) (getD-set-same (v .labels) d _ blank (omega arith))))
       (λ d e l m r v k q. ap (λ x. x .tentative) (getD-set-other (v .labels) d e _ blank (λ z. omega arith)) ∙ q)
       w room .1
 
   pub committed : (d : ℕ) → d < n → has s d ≡ true
-      → ((labelAt (applyAll b (commits n s) w .labels) d) .committed ≡ s) × ((labelAt (applyAll b (commits n s) w .labels) d) .tentative ≡ 0)
+      → (committedAt (applyAll b (commits n s) w .labels) d ≡ s)
+      × (tentativeAt (applyAll b (commits n s) w .labels) d ≡ 0)
   unfolding commits apply
-  committed = made-members b (λ d. commit d s) s Room (λ d v. ((labelAt (v .labels) d) .committed ≡ s) × ((labelAt (v .labels) d) .tentative ≡ 0)) n
+  committed =
+      made-members b (λ d. commit d s) s Room
+      (λ d v. (committedAt (v .labels) d ≡ s) × (tentativeAt (v .labels) d ≡ 0)) n
       (λ d l m v k. (rw length-set k, (ap (λ x. x .committed) (now v d l k), ap (λ x. x .tentative) (now v d l k))))
-      (λ d e l m r v k q. rw (getD-set-other (v .labels) d e (record { committed = s; tentative = 0; dirty = (labelAt (v .labels) d) .dirty }) blank (λ z. omega arith)) q)
+      (λ d e l m r v k q.
+      let same = getD-set-other (v .labels) d e (withCommitted (labelAt (v .labels) d) s) blank (λ z. omega arith) in
+      (ap (λ x. x .committed) same ∙ q .0, ap (λ x. x .tentative) same ∙ q .1))
       w room .1
     where
       now : (v : Disks) (d : ℕ) → d < n → Room v
-          → labelAt (set (v .labels) d (record { committed = s; tentative = 0; dirty = (labelAt (v .labels) d) .dirty })) d
-          ≡ record { committed = s; tentative = 0; dirty = (labelAt (v .labels) d) .dirty }
+          → labelAt (set (v .labels) d (withCommitted (labelAt (v .labels) d) s)) d
+          ≡ withCommitted (labelAt (v .labels) d) s
       now v d l k = getD-set-same (v .labels) d _ blank (omega arith)

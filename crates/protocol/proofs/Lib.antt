@@ -4,42 +4,46 @@
 pub mod ByHand
 -- loops, lists of stores and where they are cut, blocks, labels
 pub mod Loops
-pub mod Turns
-pub mod Runs
-pub mod ListStores
-pub mod Areas
+pub mod Iterations
+pub mod Stores
+pub mod Lists
+pub mod Blocks
 pub mod Labels
--- soundness, refusals, and the set that a restart names
+pub mod States
+-- soundness, refusals, outcomes, and the set that a restart names
 pub mod Soundness
 pub mod Refusals
-pub mod Passing
+pub mod Outcomes
 pub mod Naming
 pub mod Finder
 -- what the labels of a cabinet back, and what its disks hold against the reference contents
 pub mod Backing
-pub mod Moving
-pub mod Holding
--- each call's stores, cut anywhere
+pub mod MoveStores
+pub mod Consistency
 pub mod Moves
-pub mod Counting
+pub mod Reference
+-- stores that keep soundness
+pub mod FitStores
+-- what each call preserves, with its stores cut anywhere
+pub mod NotRefused
+pub mod Preservation
+pub mod LiveMoves
+pub mod StorelessCalls
 pub mod Writes
 pub mod Joins
 pub mod Cleans
 pub mod Restarts
-pub mod Safety
--- soundness is kept
-pub mod FitStores
+pub mod Calls
+-- fresh and the saved form
 pub mod Formatting
-pub mod SoundCalls
 pub mod Assembling
 pub mod Saving
 -- lists of calls
-pub mod Endings
-pub mod Histories
-pub mod RestartCalls
+pub mod History
 pub mod Invariant
+pub mod RestartResults
 pub mod Demand3
-pub mod ReadCalls
+pub mod ReadsRight
 pub mod WritesCount
 pub mod WriteBound
-pub mod SoundLists
+pub mod SoundnessKept

@@ -9,7 +9,8 @@ use lib.Dec.{ltb}
 use lib.ListN.{length, take, length-append}
 use borrow.Author.Tests.{ltb-true, ltb-false, lt-ltb, le-ltb}
 use Rattle.sets.specs.Sets.{has, below, size, members}
-use Rattle.sets.proofs.Tests.{Test, passes, fails, test, clash, and-parts, or-either, implied, implies, same-or-not, same-test}
+use Rattle.sets.proofs.Tests.{Test, passes, fails, test, clash, and-parts, or-either}
+use Rattle.sets.proofs.Tests.{implied, implies, same-or-not, same-test}
 use Rattle.sets.proofs.Membership.{has-empty}
 use Rattle.sets.proofs.Operations.{has-union}
 use Rattle.sets.proofs.Bounds.{below-pow, below-members}
@@ -29,7 +30,8 @@ or-last P n d h low last = go (same-or-not d n)
 pub all-at : (n : ℕ) (p : ℕ → Bool) → allBelow n p ≡ true → (d : ℕ) → d < n → p d ≡ true
 unfolding allBelow
 all-at zero p h d l = absurd (omega arith)
-all-at (suc n) p h d l = let parts = and-parts (allBelow n p) (p n) h in or-last (λ e. p e ≡ true) n d l (all-at n p (parts .0) d) (parts .1)
+all-at (suc n) p h d l =
+    let parts = and-parts (allBelow n p) (p n) h in or-last (λ e. p e ≡ true) n d l (all-at n p (parts .0) d) (parts .1)
 
 pub all-of : (n : ℕ) (p : ℕ → Bool) → ((d : ℕ) → d < n → p d ≡ true) → allBelow n p ≡ true
 unfolding allBelow
@@ -41,7 +43,8 @@ unfolding someBelow
 some-at zero p h = clash h refl
 some-at (suc n) p h = go (some-at n p) (or-either (someBelow n p) (p n) h)
   where
-    go : (someBelow n p ≡ true → (d : ℕ) × (d < n) × (p d ≡ true)) → (someBelow n p ≡ true) ⊎ (p n ≡ true) → (d : ℕ) × (d < suc n) × (p d ≡ true)
+    go : (someBelow n p ≡ true → (d : ℕ) × (d < n) × (p d ≡ true)) → (someBelow n p ≡ true) ⊎ (p n ≡ true)
+        → (d : ℕ) × (d < suc n) × (p d ≡ true)
     go ih (inl e) = let (d, l, q) = ih e in (d, omega arith, q)
     go ih (inr e) = (n, omega arith, e)
 
@@ -127,7 +130,8 @@ module _ {A : Type 0} {P : A → Type 0} where
   each-ascending zero f h = nil
   each-ascending (suc n) f h = each-append (each-ascending n f (λ i l. h i (omega arith))) (h n (omega arith))
 
-  pub each-member : (n s : ℕ) (f : ℕ → List A) → ((d : ℕ) → d < n → has s d ≡ true → Each P (f d)) → Each P (forEach n s f)
+  pub each-member : (n s : ℕ) (f : ℕ → List A) → ((d : ℕ) → d < n → has s d ≡ true → Each P (f d))
+      → Each P (forEach n s f)
   unfolding forEach
   each-member n s f h = each-ascending n _ (λ d l. each-if (has s d) (h d l))
 
@@ -145,12 +149,14 @@ module _ {A : Type 0} (f : ℕ → List A) (a : ℕ) (nothing : (i : ℕ) → i 
   begins zero l = absurd (omega arith)
   begins (suc n) l = go (same-or-not a n) (begins n)
     where
-      go : (a ≡ n) ⊎ (a ≢ n) → (a < n → (later : List A) × (ascending n f ≡ f a ++ later)) → (later : List A) × (ascending n f ++ f n ≡ f a ++ later)
+      go : (a ≡ n) ⊎ (a ≢ n) → (a < n → (later : List A) × (ascending n f ≡ f a ++ later))
+          → (later : List A) × (ascending n f ++ f n ≡ f a ++ later)
       go (inl e) ih = ([], rw (← e, nothing-before a (omega arith), append-nil))
       go (inr ne) ih = let (later, e) = ih (omega arith) in (later ++ f n, rw e (append-assoc (f a) later (f n)))
 
 -- a loop over members that gives at most one element for each is no longer than the set is large
-pub for-length-le : {A : Type 0} (n s : ℕ) (f : ℕ → List A) → ((d : ℕ) → length (f d) ≤ 1) → length (forEach n s f) ≤ length (members n s)
+pub for-length-le : {A : Type 0} (n s : ℕ) (f : ℕ → List A) → ((d : ℕ) → length (f d) ≤ 1)
+    → length (forEach n s f) ≤ length (members n s)
 unfolding forEach ascending members
 for-length-le zero s f h = omega arith
 for-length-le (suc n) s f h =
@@ -190,13 +196,15 @@ for-none (suc n) f = rw (for-none n f, has-empty n)
 
 -- ---- loops that give the same
 
-pub same-turns : {A : Type 0} (n : ℕ) (f g : ℕ → List A) → ((i : ℕ) → i < n → f i ≡ g i) → ascending n f ≡ ascending n g
+pub same-iterations : {A : Type 0} (n : ℕ) (f g : ℕ → List A) → ((i : ℕ) → i < n → f i ≡ g i)
+    → ascending n f ≡ ascending n g
 unfolding ascending
-same-turns zero f g same = refl
-same-turns (suc n) f g same = rw (same-turns n f g (λ i l. same i (omega arith)), same n (omega arith))
+same-iterations zero f g same = refl
+same-iterations (suc n) f g same = rw (same-iterations n f g (λ i l. same i (omega arith)), same n (omega arith))
 
 -- a loop that gives nothing from m on
-pub until : {A : Type 0} (n m : ℕ) (f : ℕ → List A) → ascending n (λ i. cond (ltb i m) (f i) []) ≡ ascending (cond (ltb m n) m n) f
+pub until : {A : Type 0} (n m : ℕ) (f : ℕ → List A)
+    → ascending n (λ i. cond (ltb i m) (f i) []) ≡ ascending (cond (ltb m n) m n) f
 unfolding ascending
 until zero m f = rw (le-ltb m 0 (omega arith))
 until (suc n) m f = rw (until n m f) (go (test (ltb n m)))
@@ -205,7 +213,8 @@ until (suc n) m f = rw (until n m f) (go (test (ltb n m)))
     least true e l = refl
     least false e l = omega (arith, ltb-false m n e)
 
-    go : Test (ltb n m) → ascending (cond (ltb m n) m n) f ++ cond (ltb n m) (f n) [] ≡ ascending (cond (ltb m (suc n)) m (suc n)) f
+    go : Test (ltb n m)
+        → ascending (cond (ltb m n) m n) f ++ cond (ltb n m) (f n) [] ≡ ascending (cond (ltb m (suc n)) m (suc n)) f
     go (passes e) = let l = ltb-true n m e in rw (e, le-ltb m n (omega arith), le-ltb m (suc n) (omega arith))
     go (fails e) =
         let l : m ≤ n = ltb-false n m e in

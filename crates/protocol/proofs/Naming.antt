@@ -1,4 +1,5 @@
--- The function that names a restart's set gives the answer of the paper's sentences, and they have no other. Assumes nothing.
+-- The function that names a restart's set gives the answer of the paper's sentences, and they have no other. Assumes
+-- nothing.
 use mathlib.Core.Path.{_≡_, refl, sym, ap, _∙_}
 use mathlib.Core.Logic.{_≢_, _⊎_, inl, inr}
 use mathlib.Core.Bool.{Bool, true, cond, or-true}
@@ -16,8 +17,10 @@ use Rattle.protocol.specs.declared.State.{State}
 use Rattle.protocol.specs.Loops.{ascending, every, some}
 use Rattle.protocol.specs.States.{labelAt}
 use Rattle.protocol.specs.Soundness.{Sound}
-use Rattle.protocol.specs.Naming.{Stage, first, second, third, Found, none, one, several, Backs, Proposes, Candidate, Exactly, no-set, one-set, several-sets, Decides, here, further, nowhere, stages, Names, backs, proposes, candidate, candidates, count, orLater, decide, named, NamedAsDefined}
-use Rattle.protocol.specs.Calls.{foundBy}
+use Rattle.protocol.specs.Naming.{Stage, first, second, third, Found, none, one, several, Backs, Proposes}
+use Rattle.protocol.specs.Naming.{Candidate, Exactly, no-set, one-set, several-sets, Decides, here}
+use Rattle.protocol.specs.Naming.{further, nowhere, stages, Names, backs, proposes, candidate, candidates}
+use Rattle.protocol.specs.Naming.{foundIn, orLater, decide, named, NamedAsDefined, foundBy}
 use Rattle.protocol.proofs.Loops.{every-at, every-of, some-member, some-is}
 
 -- ---- the test of a candidate
@@ -60,7 +63,8 @@ module _ (stage : Stage) (n online : ℕ) (labels : List Label) (known : online 
   candidate-if x e =
       let (p, e1) = and-parts (ltb 0 x) _ e in
       let (q, e2) = and-parts (subset x online) _ e1 in
-      let (r, t) = and-parts (every n x (λ d. backs stage (labelAt labels d) x)) (some n x (λ d. proposes stage (labelAt labels d) x)) e2 in
+      let (r, t) = and-parts (every n x (λ d. backs stage (labelAt labels d) x))
+      (some n x (λ d. proposes stage (labelAt labels d) x)) e2 in
       let inside = subset-members x online .0 q in
       let (d, l, m, z) = some-member n x _ t in
       record {
@@ -86,7 +90,8 @@ module _ (stage : Stage) (n online : ℕ) (labels : List Label) (known : online 
 
 -- ---- how many there are
 
-pub exactly-map : {P Q : ℕ → Type 0} {f : Found} → ((x : ℕ) → P x → Q x) → ((x : ℕ) → Q x → P x) → Exactly P f → Exactly Q f
+pub exactly-map : {P Q : ℕ → Type 0} {f : Found} → ((x : ℕ) → P x → Q x) → ((x : ℕ) → Q x → P x) → Exactly P f
+    → Exactly Q f
 exactly-map to from (no-set h) = no-set (λ x q. h x (from x q))
 exactly-map to from (one-set {x} p u) = one-set (to x p) (λ y q. u y (from y q))
 exactly-map to from (several-sets {x} {y} p q ne) = several-sets (to x p) (to y q) ne
@@ -117,30 +122,37 @@ module _ (p : ℕ → Bool) where
       go (inl q) = inl q
       go (inr q) = inr (omega arith, e)
 
-  listed : (i : ℕ) → Exactly (Below i) (count (ascending i (λ x. cond (p x) (x ∷ []) [])))
-  unfolding ascending count
+  listed : (i : ℕ) → Exactly (Below i) (foundIn (ascending i (λ x. cond (p x) (x ∷ []) [])))
+  unfolding ascending foundIn
   listed zero = no-set (λ x (l, e). omega arith)
   listed (suc i) = go (ascending i (λ x. cond (p x) (x ∷ []) [])) (listed i) (test (p i))
     where
-      more : p i ≡ true → (xs : List ℕ) → Exactly (Below i) (count xs) → Exactly (Below (suc i)) (count (xs ++ i ∷ []))
-      more e [] (no-set h) = one-set {x = i} (omega arith, e) (λ y b. elim (down i y b) [ inl q ↦ q | inr c ↦ absurd (h y c) ])
-      more e (y ∷ []) (one-set b u) = several-sets {x = y} {y = i} (up i y b) (omega arith, e) (λ q. omega (arith, b .0))
+      more : p i ≡ true → (xs : List ℕ) → Exactly (Below i) (foundIn xs)
+          → Exactly (Below (suc i)) (foundIn (xs ++ i ∷ []))
+      more e [] (no-set h) =
+          one-set {x = i} (omega arith, e) (λ y b. elim (down i y b) [ inl q ↦ q | inr c ↦ absurd (h y c) ])
+      more e (y ∷ []) (one-set b u) =
+          several-sets {x = y} {y = i} (up i y b) (omega arith, e) (λ q. omega (arith, b .0))
       more e (u ∷ v ∷ xs) (several-sets {x} {y} b d ne) = several-sets (up i x b) (up i y d) ne
 
-      go : (xs : List ℕ) → Exactly (Below i) (count xs) → Test (p i) → Exactly (Below (suc i)) (count (xs ++ cond (p i) (i ∷ []) []))
+      go : (xs : List ℕ) → Exactly (Below i) (foundIn xs) → Test (p i)
+          → Exactly (Below (suc i)) (foundIn (xs ++ cond (p i) (i ∷ []) []))
       go xs h (passes e) = rw e (more e xs h)
-      go xs h (fails e) = rw (e, append-nil) (exactly-map (up i) (λ x b. elim (down i x b) [ inl q ↦ clash (b .1) (rw q e) | inr c ↦ c ]) h)
+      go xs h (fails e) =
+          rw (e, append-nil) (exactly-map (up i)
+          (λ x b. elim (down i x b) [ inl q ↦ clash (b .1) (rw q e) | inr c ↦ c ]) h)
 
 module _ (n online : ℕ) (labels : List Label) (known : online < 2 ^ n) where
   -- a candidate is one of the sets of disks below n
   in-list : (stage : Stage) (x : ℕ) → Candidate stage online labels x → x < 2 ^ n
   in-list stage x c = below-pow x n .0 (below-members x n .1 (candidate-below stage n online labels known x c))
 
-  stage-right : (stage : Stage) → Exactly (Candidate stage online labels) (count (candidates stage n online labels))
+  stage-right : (stage : Stage) → Exactly (Candidate stage online labels) (foundIn (candidates stage n online labels))
   unfolding candidates
   stage-right stage =
       exactly-map (λ x b. candidate-if stage n online labels known x (b .1))
-      (λ x c. (in-list stage x c, if-candidate stage n online labels known x c)) (listed (candidate stage n online labels) (2 ^ n))
+      (λ x c. (in-list stage x c, if-candidate stage n online labels known x c))
+      (listed (candidate stage n online labels) (2 ^ n))
 
 -- ---- the first stage that decides
 
@@ -151,11 +163,12 @@ several-not-none : several ≢ none
 several-not-none e = absurd (let z : _≡_ {A = ℕ} 0 1 = cc in omega arith)
 
 -- what finds exactly the candidates of each stage gives the answer of these stages ..
-module _ (online : ℕ) (labels : List Label) (found : Stage → Found) (right : (stage : Stage) → Exactly (Candidate stage online labels) (found stage)) where
-  pub decided : (stages : List Stage) → Decides online labels stages (decide found stages)
+module _ (online : ℕ) (labels : List Label) (found : Stage → Found)
+    (right : (stage : Stage) → Exactly (Candidate stage online labels) (found stage)) where
+  pub decide-right : (stages : List Stage) → Decides online labels stages (decide found stages)
   unfolding decide orLater
-  decided [] = nowhere
-  decided (stage ∷ later) = go (found stage) (right stage) (decided later)
+  decide-right [] = nowhere
+  decide-right (stage ∷ later) = go (found stage) (right stage) (decide-right later)
     where
       go : (f : Found) → Exactly (Candidate stage online labels) f → Decides online labels later (decide found later)
           → Decides online labels (stage ∷ later) (orLater f (decide found later))
@@ -164,7 +177,8 @@ module _ (online : ℕ) (labels : List Label) (found : Stage → Found) (right :
       go several e ih = here several-not-none e
 
 -- .. and they have no other
-decides-same : {online : ℕ} {labels : List Label} {stages : List Stage} {f g : Found} → Decides online labels stages f → Decides online labels stages g → f ≡ g
+decides-same : {online : ℕ} {labels : List Label} {stages : List Stage} {f g : Found} → Decides online labels stages f
+    → Decides online labels stages g → f ≡ g
 decides-same (here a p) (here b q) = exactly-same p q
 decides-same (here a p) (further q h) = absurd (a (exactly-same p q))
 decides-same (further p h) (here b q) = absurd (b (exactly-same q p))
@@ -174,10 +188,12 @@ decides-same nowhere nowhere = refl
 pub named-as-defined : (n online : ℕ) (labels : List Label) → online < 2 ^ n → NamedAsDefined n online labels
 unfolding named
 named-as-defined n online labels known =
-    let right = decided online labels (λ stage. count (candidates stage n online labels)) (stage-right n online labels known) stages in
+    let right = decide-right online labels (λ stage. foundIn (candidates stage n online labels))
+    (stage-right n online labels known) stages in
     record { answers = right; only = λ f h. decides-same h right }
 
 -- what a restart of a sound state names
 pub found-names : (s : State) → Sound s → Names (s .online) (s .labels) (foundBy s)
 unfolding foundBy
-found-names s fit = named-as-defined (s .disks) (s .online) (s .labels) (below-pow (s .online) (s .disks) .0 (fit .online)) .answers
+found-names s fit =
+    named-as-defined (s .disks) (s .online) (s .labels) (below-pow (s .online) (s .disks) .0 (fit .online)) .answers

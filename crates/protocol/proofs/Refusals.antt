@@ -8,7 +8,7 @@ use native.Mathlib.Omega.{arith}
 use lib.Dec.{eqb}
 use borrow.Author.Tests.{eq-eqb, not-true}
 use Rattle.sets.proofs.Tests.{clash, and-parts}
-use Rattle.label.specs.Refusals.{firstOf}
+use Rattle.refusals.specs.Refusals.{firstOf}
 use Rattle.protocol.proofs.Loops.{Each, nil, cons}
 
 -- a refusal does not apply
@@ -39,11 +39,14 @@ abbrev pub lacks : ℕ → List (ℕ × Bool) → Bool
 lacks number [] = true
 lacks number (refusal ∷ later) = (not (eqb (refusal .0) number) || not (refusal .1)) && lacks number later
 
-pub not-given : (number : ℕ) → 0 < number → (refusals : List (ℕ × Bool)) → lacks number refusals ≡ true → firstOf refusals ≢ number
+pub not-given : (number : ℕ) → 0 < number → (refusals : List (ℕ × Bool)) → lacks number refusals ≡ true
+    → firstOf refusals ≢ number
 unfolding firstOf
 not-given number h [] e z = omega arith
-not-given number h ((other, unfit) ∷ later) e z = let (p, q) = and-parts _ _ e in go unfit p (not-given number h later q) z
+not-given number h ((other, unfit) ∷ later) e z =
+    let (p, q) = and-parts _ _ e in go unfit p (not-given number h later q) z
   where
-    go : (t : Bool) → (not (eqb other number) || not t) ≡ true → firstOf later ≢ number → cond t other (firstOf later) ≢ number
+    go : (t : Bool) → (not (eqb other number) || not t) ≡ true → firstOf later ≢ number
+        → cond t other (firstOf later) ≢ number
     go true p ih z = clash (eq-eqb other number z) (not-true _ (sym (or-false (not (eqb other number))) ∙ p))
     go false p ih z = ih z

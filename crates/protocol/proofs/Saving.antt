@@ -8,39 +8,45 @@ use native.Mathlib.Omega.{arith}
 use lib.Pow.{pow-mono}
 use lib.ListN.{length, length-append, length-replicate}
 use lib.Seq.{ext-getD}
-use borrow.Author.Tests.{le-ltb, lt-leb, eq-eqb}
+use borrow.Author.Tests.{lt-leb, eq-eqb}
 use Rattle.sets.proofs.Bounds.{below-pow}
 use Rattle.label.specs.declared.Label.{Label}
-use Rattle.label.specs.Form.{narrow}
-use Rattle.label.specs.Bytes.{encode}
-use Rattle.label.specs.Refusals.{firstOf, wrongSets}
+use Rattle.label.specs.Bytes.{blank, encode}
+use Rattle.refusals.specs.Refusals.{firstOf}
+use Rattle.label.specs.Rules.{wrongSets}
 use Rattle.label.specs.Reading.{found}
-use Rattle.label.specs.Codec.{Writable}
+use Rattle.label.specs.Codec.{Writable, Codec}
 use Rattle.label.proofs.Accepting.{accepted}
 use Rattle.label.proofs.Codec.{narrow-codec}
 use Rattle.protocol.specs.declared.State.{State}
-use Rattle.protocol.specs.Geometry.{mostDisks, mostBlocks, regions}
+use Rattle.protocol.specs.Geometry.{labelForm, mostDisks, mostRegions, regions}
 use Rattle.protocol.specs.Loops.{ascending}
-use Rattle.protocol.specs.States.{blank, labelAt}
+use Rattle.protocol.specs.States.{labelAt}
 use Rattle.protocol.specs.Soundness.{InRange, FitLabel, Sound}
 use Rattle.protocol.specs.Outcomes.{refusedOr}
-use Rattle.protocol.specs.Saving.{slotSize, slotBytes, saveRefusals, saveOutcome, slotReading, slotRefusals, assembleRefusals, assembled, assembleAnswer, SavedAssembles}
+use Rattle.protocol.specs.Bays.{bayRefusals}
+use Rattle.protocol.specs.Saving.{slotSize, slotBytes, saveRefusals, saveOutcome, slotReading}
+use Rattle.protocol.specs.Saving.{assembleRefusals, assembled, assembleAnswer, SavedAssembles}
 use Rattle.protocol.proofs.Loops.{Each, each-ascending}
-use Rattle.protocol.proofs.Soundness.{not-outside, test-agrees}
-use Rattle.protocol.proofs.Turns.{even-length, even-turn}
+use Rattle.protocol.proofs.Soundness.{right-counts, test-agrees}
+use Rattle.protocol.proofs.Iterations.{even-length, even-iteration}
 use Rattle.protocol.proofs.Refusals.{Unmet, none-given, none-applies}
 use Rattle.protocol.proofs.Assembling.{right-set, slot-numbered, label-read, blank-past, all-slots}
 
 -- ---- one label
 
+-- what is proved of the labels' form
+pub label-codec : Codec labelForm
+label-codec = narrow-codec
+
 module _ (n b d : ℕ) (l : Label) (range : InRange n b) (low : d < n) (fit : FitLabel n b d l) where
   -- the label writer takes a sound state's label
-  writable : Writable narrow d n l
+  writable : Writable labelForm d n l
   unfolding Writable wrongSets
   writable =
-      accepted narrow d n l _
+      accepted labelForm d n l _
       (record {
-        count = not-outside n b range;
+        count = right-counts n b .1 range .0;
         number = lt-leb n d low;
         sets = rw (right-set n d (l .committed) .1 (fit .committed)) (right-set n d (l .tentative) .1 (fit .tentative));
       })
@@ -49,7 +55,8 @@ module _ (n b d : ℕ) (l : Label) (range : InRange n b) (low : d < n) (fit : Fi
   -- no cabinet has more regions than a byte has bits
   dirty-byte : l .dirty < 256
   unfolding regions
-  dirty-byte = lt-of-lt-of-le (below-pow (l .dirty) (regions b) .0 (fit .dirty)) (pow-mono {j = 8} (omega arith))
+  dirty-byte =
+      lt-of-lt-of-le (below-pow (l .dirty) (regions b) .0 (fit .dirty)) (pow-mono {j = mostRegions} (omega arith))
 
 -- ---- the slots of a state
 
@@ -63,7 +70,9 @@ slotsOf s = ascending (s .disks) (slotOf s)
 -- each slot has its size
 pub slot-length : (s : State) (d : ℕ) → length (slotOf s d) ≡ slotSize
 unfolding slotBytes
-slot-length s d = simp (length-append, length-replicate) (add-sub-of-le (narrow-codec .lengths d (s .disks) (labelAt (s .labels) d) .1))
+slot-length s d =
+    simp (length-append, length-replicate)
+    (add-sub-of-le (label-codec .lengths d (s .disks) (labelAt (s .labels) d) .1))
 
 module _ (s : State) (fit : Sound s) where
   -- save takes a sound state, and puts these slots out
@@ -73,34 +82,37 @@ module _ (s : State) (fit : Sound s) where
 
   -- each is read as the label that it was written for
   slot-read : (d : ℕ) → d < s .disks
-      → slotReading (slotsOf s) d ≡ found d (s .disks) (labelAt (s .labels) d) (length (encode narrow d (s .disks) (labelAt (s .labels) d)))
+      → slotReading (slotsOf s) d
+      ≡ found d (s .disks) (labelAt (s .labels) d) (length (encode labelForm d (s .disks) (labelAt (s .labels) d)))
   unfolding slotReading slotBytes
   slot-read d l =
       let label = labelAt (s .labels) d in
       let here = fit .labels .each d l in
-      let (later, e) = even-turn slotSize (slotOf s) (slot-length s) (s .disks) d l in
-      rw (e, append-assoc (encode narrow d (s .disks) label))
-      (narrow-codec .written-reads d (s .disks) label _ (dirty-byte _ _ d label (fit .range) l here) (writable _ _ d label (fit .range) l here))
+      let (later, e) = even-iteration slotSize (slotOf s) (slot-length s) (s .disks) d l in
+      rw (e, append-assoc (encode labelForm d (s .disks) label))
+      (label-codec .written-reads d (s .disks) label _ (dirty-byte _ _ d label (fit .range) l here)
+      (writable _ _ d label (fit .range) l here))
 
   -- assembling takes them
   none-refused : firstOf (assembleRefusals (s .disks) (s .blocks) (s .online) (slotsOf s)) ≡ 0
-  unfolding assembleRefusals slotRefusals firstOf
+  unfolding assembleRefusals bayRefusals firstOf
   none-refused =
+      let (right-disks, right-blocks) = right-counts (s .disks) (s .blocks) .1 (fit .range) in
       rw (
-        not-outside (s .disks) (s .blocks) (fit .range),
-        le-ltb (s .blocks) 1 (fit .range .some-block),
-        le-ltb mostBlocks (s .blocks) (fit .range .blocks),
+        right-disks,
+        right-blocks,
         eq-eqb (length (slotsOf s)) (slotSize * s .disks) (even-length slotSize (slotOf s) (slot-length s) (s .disks)),
         fit .online,
       ) (none-given (each-ascending (s .disks) _ unmet))
     where
-      unmet : (d : ℕ) → d < s .disks → Each Unmet (slotRefusals d (s .disks) (s .blocks) (slotReading (slotsOf s) d))
+      unmet : (d : ℕ) → d < s .disks → Each Unmet (bayRefusals d (s .disks) (s .blocks) (slotReading (slotsOf s) d))
       unmet d l =
           none-applies (slot-numbered d (s .disks) (s .blocks) (slotReading (slotsOf s) d))
           (rw (slot-read d l, eq-eqb d d refl, eq-eqb (s .disks) (s .disks) refl, fit .labels .each d l .dirty))
 
   -- and gives the state's labels, those from n up too
-  same-labels : length (s .labels) ≡ mostDisks → assembled (s .disks) (s .blocks) (s .online) (slotsOf s) .labels ≡ s .labels
+  same-labels : length (s .labels) ≡ mostDisks
+      → assembled (s .disks) (s .blocks) (s .online) (slotsOf s) .labels ≡ s .labels
   same-labels e = ext-getD blank _ _ (all ∙ sym e) (λ d l. same d (rw all at l) (decLt d (s .disks)))
     where
       all : length (assembled (s .disks) (s .blocks) (s .online) (slotsOf s) .labels) ≡ mostDisks
@@ -109,9 +121,11 @@ module _ (s : State) (fit : Sound s) where
       same : (d : ℕ) → d < mostDisks → Dec (d < s .disks)
           → labelAt (assembled (s .disks) (s .blocks) (s .online) (slotsOf s) .labels) d ≡ labelAt (s .labels) d
       same d l (yes p) = label-read _ (s .blocks) (s .online) (slotsOf s) d p ∙ ap (λ r. r .label) (slot-read d p)
-      same d l (no g) = blank-past _ (s .blocks) (s .online) (slotsOf s) d (omega arith) ∙ sym (fit .labels .rest d (omega arith) l)
+      same d l (no g) =
+          blank-past _ (s .blocks) (s .online) (slotsOf s) d (omega arith) ∙ sym (fit .labels .rest d (omega arith) l)
 
 -- saved, then assembled: the state after a cut
 pub saved-assembles : SavedAssembles
 unfolding assembleAnswer assembled
-saved-assembles s area slots p e = rw (saved s (p .fit) area slots e, none-refused s (p .fit), same-labels s (p .fit) (p .slots))
+saved-assembles s area slots p e =
+    rw (saved s (p .fit) area slots e, none-refused s (p .fit), same-labels s (p .fit) (p .slots))

@@ -6,38 +6,56 @@ use mathlib.Core.List.{List}
 use Prim.Native.Nat.{ℕ, _≤_, _<_}
 use native.Mathlib.Omega.{arith}
 use native.Mathlib.Decide.{decLt}
-use lib.Dec.{eqb, leb, ltb}
-use borrow.Author.Tests.{leb-true, le-leb, eqb-true, eq-eqb, ltb-true, lt-ltb, le-ltb}
+use lib.Dec.{eqb, ltb}
+use borrow.Author.Tests.{eqb-true, eq-eqb, ltb-true, lt-ltb, ltb-false, le-ltb, not-true}
 use Rattle.sets.specs.Sets.{has, below}
-use Rattle.sets.proofs.Tests.{and-parts, or-either, implied, implies}
+use Rattle.sets.proofs.Tests.{and-parts, or-parts, or-either, implied, implies}
 use Rattle.sets.proofs.Bounds.{below-intersection}
 use Rattle.label.specs.declared.Label.{Label}
-use Rattle.label.specs.Form.{narrow}
-use Rattle.label.specs.Refusals.{outside}
+use Rattle.label.specs.Rules.{outside}
+use Rattle.label.proofs.Accepting.{in-range as in-form}
+use Rattle.label.specs.Bytes.{blank}
 use Rattle.protocol.specs.declared.Power.{Power}
 use Rattle.protocol.specs.declared.Power.the-variants.{Stopped, Running}
 use Rattle.protocol.specs.declared.State.{State}
-use Rattle.protocol.specs.Geometry.{mostDisks, mostBlocks, regions}
+use Rattle.protocol.specs.Geometry.{labelForm, mostDisks, wrongDiskCount, mostBlocks, wrongBlockCount, regions}
 use Rattle.protocol.specs.Loops.{allBelow}
-use Rattle.protocol.specs.States.{blank, labelAt, currentOf, live}
-use Rattle.protocol.specs.Soundness.{Sound, InRange, FitSet, FitLabel, FitLabels, FitPower, inRange, fitSet, fitLabel, isBlank, fitLabels, fitMember, fitPower, sound, TestAgrees}
+use Rattle.protocol.specs.States.{labelAt, currentOf, live}
+use Rattle.protocol.specs.Soundness.{Sound, InRange, FitSet, FitLabel, FitLabels}
+use Rattle.protocol.specs.Soundness.{FitPower, inRange, fitSet, fitLabel, isBlank}
+use Rattle.protocol.specs.Soundness.{fitLabels, fitMember, fitPower, sound, TestAgrees}
 use Rattle.protocol.proofs.Loops.{all-at, all-of}
+
+-- n and b are in range where neither is refused
+pub right-counts : (n b : ℕ) → ((wrongDiskCount n ≡ false) × (wrongBlockCount b ≡ false)) ↔ InRange n b
+unfolding outside
+right-counts n b = (
+  λ e.
+      let (some-disk, disks) = in-form labelForm n (e .0) in
+      let (some-block, blocks) = or-parts (ltb b 1) (ltb mostBlocks b) (e .1) in
+      record {
+        some-disk = some-disk;
+        disks = disks;
+        some-block = ltb-false _ _ some-block;
+        blocks = ltb-false _ _ blocks;
+      },
+  λ h. (
+    rw (le-ltb n 1 (h .some-disk), le-ltb mostDisks n (h .disks)),
+    rw (
+      le-ltb b 1
+          (h .some-block),
+      le-ltb mostBlocks b (h .blocks),
+    ),
+  ),
+)
 
 pub in-range : (n b : ℕ) → (inRange n b ≡ true) ↔ InRange n b
 unfolding inRange
 in-range n b = (
-  λ e.
-      let (p, e1) = and-parts (leb 1 n) (leb n mostDisks && (leb 1 b && leb b mostBlocks)) e in
-      let (q, e2) = and-parts (leb n mostDisks) (leb 1 b && leb b mostBlocks) e1 in
-      let (r, t) = and-parts (leb 1 b) (leb b mostBlocks) e2 in
-      record { some-disk = leb-true _ _ p; disks = leb-true _ _ q; some-block = leb-true _ _ r; blocks = leb-true _ _ t },
-  λ h. rw (le-leb 1 n (h .some-disk), le-leb n mostDisks (h .disks), le-leb 1 b (h .some-block), le-leb b mostBlocks (h .blocks)),
+  λ e. let (p, q) = and-parts (not (wrongDiskCount n)) (not (wrongBlockCount b)) e in right-counts n b .0
+      (not-true _ p, not-true _ q),
+  λ h. let (p, q) = right-counts n b .1 h in rw (p, q),
 )
-
--- a count of disks that is in range is not refused
-pub not-outside : (n b : ℕ) → InRange n b → outside narrow n ≡ false
-unfolding outside
-not-outside n b h = rw (le-ltb n 1 (h .some-disk), le-ltb mostDisks n (h .disks))
 
 -- "a C or T that is not 0 names its own disk"
 pub own-disk : (d s : ℕ) → ((eqb s 0 || has s d) ≡ true) ↔ ((s ≡ 0) ⊎ (has s d ≡ true))
@@ -62,7 +80,8 @@ fit-label : (n b d : ℕ) (l : Label) → (fitLabel n b d l ≡ true) ↔ FitLab
 unfolding fitLabel
 fit-label n b d l = (
   λ e.
-      let (p, e1) = and-parts (fitSet n d (l .committed)) (fitSet n d (l .tentative) && below (l .dirty) (regions b)) e in
+      let (p, e1) = and-parts (fitSet n d (l .committed))
+      (fitSet n d (l .tentative) && below (l .dirty) (regions b)) e in
       let (q, r) = and-parts (fitSet n d (l .tentative)) (below (l .dirty) (regions b)) e1 in
       record { committed = fit-set n d _ .0 p; tentative = fit-set n d _ .0 q; dirty = r },
   λ h. rw (fit-set n d (l .committed) .1 (h .committed), fit-set n d (l .tentative) .1 (h .tentative), h .dirty),
@@ -78,7 +97,8 @@ is-blank l = (
   λ e. rw e,
 )
   where
-    zeros : (c t m : ℕ) → c ≡ 0 → t ≡ 0 → m ≡ 0 → _≡_ {A = Label} (record { committed = c; tentative = t; dirty = m }) blank
+    zeros : (c t m : ℕ) → c ≡ 0 → t ≡ 0 → m ≡ 0
+        → _≡_ {A = Label} (record { committed = c; tentative = t; dirty = m }) blank
     zeros c t m p q r = cc
 
 -- "labels from n up are all zero"
@@ -97,19 +117,23 @@ fit-labels : (n b : ℕ) (labels : List Label) → (fitLabels n b labels ≡ tru
 unfolding fitLabels
 fit-labels n b labels = (
   λ e.
-      let (p, q) = and-parts (allBelow n (λ d. fitLabel n b d (labelAt labels d))) (allBelow mostDisks (λ d. ltb d n || isBlank (labelAt labels d))) e in
+      let (p, q) = and-parts (allBelow n (λ d. fitLabel n b d (labelAt labels d)))
+      (allBelow mostDisks (λ d. ltb d n || isBlank (labelAt labels d))) e in
       record {
         each = λ d l. fit-label n b d _ .0 (all-at n _ p d l);
         rest = λ d g l. blank-from n d _ .0 (all-at mostDisks _ q d l) g;
       },
-  λ h. rw (all-of n (λ d. fitLabel n b d (labelAt labels d)) (λ d l. fit-label n b d _ .1 (h .each d l))) (all-of mostDisks _ (λ d l. blank-from n d _ .1 (λ g. h .rest d g l))),
+  λ h. rw (all-of n (λ d. fitLabel n b d (labelAt labels d)) (λ d l. fit-label n b d _ .1 (h .each d l)))
+      (all-of mostDisks _ (λ d l. blank-from n d _ .1 (λ g. h .rest d g l))),
 )
 
 -- "each member has C = G and T = 0"
 fit-member : (g d : ℕ) (l : Label)
-    → ((not (has g d) || (eqb (l .committed) g && eqb (l .tentative) 0)) ≡ true) ↔ (has g d ≡ true → (l .committed ≡ g) × (l .tentative ≡ 0))
+    → ((not (has g d) || (eqb (l .committed) g && eqb (l .tentative) 0)) ≡ true) ↔ (has g d ≡ true
+    → (l .committed ≡ g) × (l .tentative ≡ 0))
 fit-member g d l = (
-  λ e m. let (p, q) = and-parts (eqb (l .committed) g) (eqb (l .tentative) 0) (implies (has g d) _ e m) in (eqb-true _ _ p, eqb-true _ _ q),
+  λ e m. let (p, q) = and-parts (eqb (l .committed) g) (eqb (l .tentative) 0)
+      (implies (has g d) _ e m) in (eqb-true _ _ p, eqb-true _ _ q),
   λ h. implied (has g d) _ (λ m. rw (eq-eqb _ _ (h m .0), eq-eqb _ _ (h m .1))),
 )
 
@@ -120,7 +144,11 @@ fit-power n labels (Running g) = (
   λ e.
       let (p, e1) = and-parts (below g n) (ltb 0 g && allBelow n (λ d. not (has g d) || fitMember labels g d)) e in
       let (q, r) = and-parts (ltb 0 g) (allBelow n (λ d. not (has g d) || fitMember labels g d)) e1 in
-      record { known = p; filled = ltb-true _ _ q; members = λ d l. fit-member g d (labelAt labels d) .0 (all-at n _ r d l) },
+      record {
+        known = p;
+        filled = ltb-true _ _ q;
+        members = λ d l. fit-member g d (labelAt labels d) .0 (all-at n _ r d l);
+      },
   λ h.
       rw (h .known, lt-ltb 0 g (h .filled))
       (all-of n _ (λ d l. fit-member g d (labelAt labels d) .1 (h .members d l))),
@@ -130,9 +158,13 @@ pub test-agrees : TestAgrees
 unfolding sound
 test-agrees s = (
   λ e.
-      let (p, e1) = and-parts (inRange (s .disks) (s .blocks)) (below (s .online) (s .disks) && (fitLabels (s .disks) (s .blocks) (s .labels) && fitPower (s .disks) (s .labels) (s .power))) e in
-      let (q, e2) = and-parts (below (s .online) (s .disks)) (fitLabels (s .disks) (s .blocks) (s .labels) && fitPower (s .disks) (s .labels) (s .power)) e1 in
-      let (r, t) = and-parts (fitLabels (s .disks) (s .blocks) (s .labels)) (fitPower (s .disks) (s .labels) (s .power)) e2 in
+      let (p, e1) = and-parts (inRange (s .disks) (s .blocks))
+      (below (s .online) (s .disks) && (fitLabels (s .disks) (s .blocks) (s .labels)
+      && fitPower (s .disks) (s .labels) (s .power))) e in
+      let (q, e2) = and-parts (below (s .online) (s .disks))
+      (fitLabels (s .disks) (s .blocks) (s .labels) && fitPower (s .disks) (s .labels) (s .power)) e1 in
+      let (r, t) = and-parts (fitLabels (s .disks) (s .blocks) (s .labels))
+      (fitPower (s .disks) (s .labels) (s .power)) e2 in
       record { range = in-range _ _ .0 p; online = q; labels = fit-labels _ _ _ .0 r; power = fit-power _ _ _ .0 t },
   λ h.
       rw (

@@ -12,7 +12,8 @@ use Rattle.label.specs.declared.Label.{Label}
 use Rattle.protocol.specs.Geometry.{regionOf}
 use Rattle.protocol.specs.States.{isDirty, currentOf, live}
 use Rattle.protocol.specs.Stores.{mark, propose, commit}
-use Rattle.protocol.specs.Lists.{proposals, commits, move, moveToLive, marks, blockStores, preparations, writeList}
+use Rattle.protocol.specs.Lists.{proposals, commits, move, moveToLive, marks}
+use Rattle.protocol.specs.Lists.{blockStores, preparations, writeList}
 use Rattle.protocol.specs.Claims.{WriteBound}
 use Rattle.protocol.proofs.Loops.{for-length-le}
 

@@ -1,77 +1,97 @@
--- A write, cut anywhere, leaves disks that a restart can take up: with the old reference contents until the store on the source of its set, with the new
--- ones from then on. Whole, it leaves disks that run with the new contents. Assumes nothing.
+-- A write, cut anywhere, leaves disks that a restart can take up: with the old reference contents until the store on
+-- the source of its set, with the new ones from then on. Whole, it leaves disks that run with the new contents. Assumes
+-- nothing.
 use mathlib.Core.Path.{_≡_, refl, _∙_, subst}
 use mathlib.Core.Logic.{_≢_, _⊎_, inl, inr}
 use mathlib.Core.Bool.{Bool, true, false, cond}
 use mathlib.Core.List.{List, [], _∷_, _++_, append-nil}
-use Prim.Native.Nat.{ℕ, zero, suc, _^_, _≤_, _<_}
+use Prim.Native.Nat.{ℕ, zero, suc, _≤_, _<_}
 use native.Mathlib.Omega.{arith}
 use lib.ListN.{length, take}
+use lib.Seq.{take-all}
 use borrow.Author.Tests.{eq-eqb, ne-eqb}
 use Rattle.sets.proofs.Tests.{same-or-not}
 use Rattle.sets.specs.Sets.{has}
-use Rattle.sets.proofs.Bounds.{member-below}
+use Rattle.sets.proofs.Bounds.{member-below, below-pow}
 use Rattle.label.specs.declared.Label.{Label}
+use Rattle.protocol.specs.declared.Call.the-variants.{Write}
+use Rattle.protocol.specs.declared.State.{State}
 use Rattle.protocol.specs.Geometry.{blockSize, regionOf, areaSize}
 use Rattle.protocol.specs.Loops.{forEach}
-use Rattle.protocol.specs.States.{isDirty, source}
+use Rattle.protocol.specs.States.{isDirty, currentOf, live, source}
+use Rattle.protocol.specs.Soundness.{Proper, FitCurrent}
 use Rattle.protocol.specs.Stores.{Disks, Store, write, mark, apply, applyAll}
-use Rattle.protocol.specs.Lists.{moveToLive, marks, preparations, blockStores}
-use Rattle.protocol.specs.Reference.{Contents, replaced, include}
-use Rattle.protocol.proofs.Loops.{Each, cons}
-use Rattle.protocol.proofs.ListStores.{each-mark, each-block}
-use Rattle.protocol.proofs.Runs.{Cut, in-first, in-second, cut, apply-append, Along, along-append, Keeps, keeps-along, made-all, made-members}
-use Rattle.protocol.proofs.Areas.{stored-size}
-use Rattle.protocol.proofs.Labels.{mark-stands, mark-keeps, move-dirty}
-use Rattle.protocol.proofs.Backing.{Agreed, source-has, agreed-recoverable}
-use Rattle.protocol.proofs.Holding.{Right, Holds, Steady, Restartable, steady-stops, steady-dirties, now-right, stays-right}
-use Rattle.protocol.proofs.Moves.{live-known, live-cut, live-done}
-use Rattle.protocol.proofs.Counting.{include-append, early, prepared, block-stores-begin, source-store}
+use Rattle.protocol.specs.Lists.{moveToLive, marks, preparations, blockStores, writeList}
+use Rattle.protocol.specs.Outcomes.{disksOf}
+use Rattle.protocol.specs.Calls.{blockRefusals, writeOutcome}
+use Rattle.protocol.specs.History.{Cabinet}
+use Rattle.protocol.specs.Reference.{Contents, replaced, include, counts, carriedWrite, carriedBy, afterWrites}
+use Rattle.protocol.proofs.Loops.{Each, cons, each-append}
+use Rattle.protocol.proofs.Soundness.{live-known}
+use Rattle.protocol.proofs.Lists.{each-mark, each-block}
+use Rattle.protocol.proofs.Stores.{Cut, in-first, in-second, cut, apply-append, Along, along-append}
+use Rattle.protocol.proofs.Stores.{Keeps, keeps, keeps-along, made-all, made-members}
+use Rattle.protocol.proofs.Blocks.{region-known, stored-size}
+use Rattle.protocol.proofs.Labels.{mark-sets, mark-keeps, move-dirty}
+use Rattle.protocol.proofs.States.{source-has}
+use Rattle.protocol.proofs.Backing.{Agreed, agreed-recoverable}
+use Rattle.protocol.proofs.Consistency.{Right, Holds, InSync, Restartable, sync-restartable, sync-dirties}
+use Rattle.protocol.proofs.Consistency.{now-right, stays-right, Consistent}
+use Rattle.protocol.proofs.Reference.{include-append, early, prepared}
+use Rattle.protocol.proofs.Reference.{block-stores-begin, source-store, write-counts}
+use Rattle.protocol.proofs.FitStores.{KeepsFit, fit-write, fit-mark}
+use Rattle.protocol.proofs.FitStores.{current-write, current-mark}
+use Rattle.protocol.proofs.LiveMoves.{live-fits, live-current, live-cut, live-done}
+use Rattle.protocol.proofs.NotRefused.{BlockPassed, block-passed}
+use Rattle.protocol.proofs.Preservation.{Preserves}
+use Rattle.protocol.proofs.Preservation.{unless-refused, carried-out, runs-with}
 
 -- ---- marks: the region's bit stands on every member afterwards
 
 module _ (n b : ℕ) (c : Contents) (l : ℕ) where
-  mark-step : (d r : ℕ) → Keeps b (Steady n b c l) (mark d r)
+  mark-one : (d r : ℕ) → Keeps b (InSync n b c l) (mark d r)
   unfolding apply
-  mark-step d r w s = steady-dirties n b c w d _ l s
+  mark-one d r w s = sync-dirties n b c w d _ l s
 
-  module _ (labels : List Label) (r : ℕ) (w : Disks) (h : Steady n b c l w)
+  module _ (labels : List Label) (r : ℕ) (w : Disks) (h : InSync n b c l w)
       (same : (e q : ℕ) → isDirty labels e q ≡ true → isDirty (w .labels) e q ≡ true) where
     marks-cut : Along b (Restartable n b c) (marks n labels l r) w
-    marks-cut k = steady-stops n b c (keeps-along b (Steady n b c l) (each-mark n labels l r (λ d i. mark-step d r)) w h k)
+    marks-cut k =
+        sync-restartable n b c (keeps-along b (InSync n b c l) (each-mark n labels l r (λ d i. mark-one d r)) w h k)
 
     record Marked (v : Disks) : Type 0 where
-      steady : Steady n b c l v
-      stand : (e q : ℕ) → isDirty labels e q ≡ true → isDirty (v .labels) e q ≡ true
+      in-sync : InSync n b c l v
+      kept-dirty : (e q : ℕ) → isDirty labels e q ≡ true → isDirty (v .labels) e q ≡ true
 
     mark-it : (d : ℕ) → d < n → (v : Disks) → Marked v → Marked (apply b (mark d r) v)
     mark-it d k v s = record {
-      steady = mark-step d r v (s .steady);
-      stand = λ e q z. mark-keeps b d r v (omega (arith, s .steady .room)) e q (s .stand e q z);
+      in-sync = mark-one d r v (s .in-sync);
+      kept-dirty = λ e q z. mark-keeps b d r v (omega (arith, s .in-sync .room)) e q (s .kept-dirty e q z);
     }
 
-    marks-done : Steady n b c l (applyAll b (marks n labels l r) w) × ((d : ℕ) → has l d ≡ true → isDirty (applyAll b (marks n labels l r) w .labels) d r ≡ true)
+    marks-done : InSync n b c l (applyAll b (marks n labels l r) w) × ((d : ℕ) → has l d ≡ true
+        → isDirty (applyAll b (marks n labels l r) w .labels) d r ≡ true)
     unfolding marks forEach applyAll
     marks-done =
         let (s, all) = made-all b (λ d. cond (has l d) (cond (isDirty labels d r) [] (mark d r ∷ [])) []) Marked
         (λ d v. has l d ≡ true → isDirty (v .labels) d r ≡ true) n
         (λ d k v s. make d k v s (has l d) (isDirty labels d r) refl)
         (λ d e k j v s q m. stay d e k v s (q m) (has l d) (isDirty labels d r))
-        w (record { steady = h; stand = same }) in
-        (s .steady, λ d m. all d (member-below l n d (h .agreed .known) m) m)
+        w (record { in-sync = h; kept-dirty = same }) in
+        (s .in-sync, λ d m. all d (member-below l n d (h .agreed .known) m) m)
       where
         make : (d : ℕ) → d < n → (v : Disks) → Marked v → (t u : Bool) → isDirty labels d r ≡ u
             → Marked (applyAll b (cond t (cond u [] (mark d r ∷ [])) []) v)
             × (t ≡ true → isDirty (applyAll b (cond t (cond u [] (mark d r ∷ [])) []) v .labels) d r ≡ true)
         make d k v s false u e = (s, λ z. absurd (let y : _≡_ {A = ℕ} 0 1 = cc in omega arith))
-        make d k v s true true e = (s, λ z. s .stand d r e)
-        make d k v s true false e = (mark-it d k v s, λ z. mark-stands b d r v (omega (arith, s .steady .room)))
+        make d k v s true true e = (s, λ z. s .kept-dirty d r e)
+        make d k v s true false e = (mark-it d k v s, λ z. mark-sets b d r v (omega (arith, s .in-sync .room)))
 
         stay : (d e : ℕ) → d < n → (v : Disks) → Marked v → isDirty (v .labels) e r ≡ true → (t u : Bool)
             → isDirty (applyAll b (cond t (cond u [] (mark d r ∷ [])) []) v .labels) e r ≡ true
         stay d e k v s q false u = q
         stay d e k v s q true true = q
-        stay d e k v s q true false = mark-keeps b d r v (omega (arith, s .steady .room)) e r q
+        stay d e k v s q true false = mark-keeps b d r v (omega (arith, s .in-sync .room)) e r q
 
 -- ---- block stores, from the first on the source
 
@@ -93,7 +113,8 @@ module _ (n b : ℕ) (c : Contents) (l k : ℕ) (hk : k < b) (bytes : List ℕ) 
     dirty : (d : ℕ) → has l d ≡ true → isDirty (w .labels) d (regionOf k) ≡ true
     others : (d : ℕ) → has l d ≡ true → (m : ℕ) → m < b → m ≢ k → Right n b new w d m
 
-  begin : (w : Disks) → Steady n b c l w → ((d : ℕ) → has l d ≡ true → isDirty (w .labels) d (regionOf k) ≡ true) → Storing w
+  begin : (w : Disks) → InSync n b c l w → ((d : ℕ) → has l d ≡ true → isDirty (w .labels) d (regionOf k) ≡ true)
+      → Storing w
   begin w h dirty = record {
     room = h .room;
     size = h .size;
@@ -102,21 +123,24 @@ module _ (n b : ℕ) (c : Contents) (l k : ℕ) (hk : k < b) (bytes : List ℕ) 
     others = λ d m j hj ne. h .holds d m j hj ∙ new-elsewhere j ne;
   }
 
-  store-step : (d : ℕ) → d < n → (w : Disks) → Storing w → Storing (apply b (write d k bytes) w)
+  store-one : (d : ℕ) → d < n → (w : Disks) → Storing w → Storing (apply b (write d k bytes) w)
   unfolding apply
-  store-step d hd w h = record {
+  store-one d hd w h = record {
     room = h .room;
     size = stored-size n b (w .area) (h .size) d k hd hk bytes full;
     agreed = h .agreed;
     dirty = h .dirty;
-    others = λ e m j hj ne. stays-right n b new w (h .size) d k hd hk bytes full new-here e j (member-below l n e (h .agreed .known) m) hj (h .others e m j hj ne);
+    others =
+        λ e m j hj ne. stays-right n b new w (h .size) d k hd hk bytes full new-here e j
+        (member-below l n e (h .agreed .known) m) hj (h .others e m j hj ne);
   }
 
   stored-here : (d : ℕ) → d < n → (w : Disks) → Storing w → Right n b new (apply b (write d k bytes) w) d k
   unfolding apply
   stored-here d hd w h = now-right n b new w (h .size) d k hd hk bytes full new-here
 
-  still-here : (d e : ℕ) → d < n → e < n → (w : Disks) → Storing w → Right n b new w e k → Right n b new (apply b (write d k bytes) w) e k
+  still-here : (d e : ℕ) → d < n → e < n → (w : Disks) → Storing w → Right n b new w e k
+      → Right n b new (apply b (write d k bytes) w) e k
   unfolding apply
   still-here d e hd he w h q = stays-right n b new w (h .size) d k hd hk bytes full new-here e k he hk q
 
@@ -137,7 +161,8 @@ module _ (n b : ℕ) (c : Contents) (l k : ℕ) (hk : k < b) (bytes : List ℕ) 
     members = λ x p d m j hj. go d (rw (h .agreed .only x p) at m) j hj (same-or-not j k);
   }
     where
-      go : (d : ℕ) → has l d ≡ true → (j : ℕ) → j < b → (j ≡ k) ⊎ (j ≢ k) → (isDirty (w .labels) d (regionOf j) ≡ true) ⊎ Right n b new w d j
+      go : (d : ℕ) → has l d ≡ true → (j : ℕ) → j < b → (j ≡ k) ⊎ (j ≢ k)
+          → (isDirty (w .labels) d (regionOf j) ≡ true) ⊎ Right n b new w d j
       go d m j hj (inl e) = inl (rw e (h .dirty d m))
       go d m j hj (inr ne) = inr (h .others d m j hj ne)
 
@@ -145,31 +170,39 @@ module _ (n b : ℕ) (c : Contents) (l k : ℕ) (hk : k < b) (bytes : List ℕ) 
     storing : Storing w
     at-source : Right n b new w (source l) k
 
-  module _ (w : Disks) (h : Steady n b c l w) (dirty : (d : ℕ) → has l d ≡ true → isDirty (w .labels) d (regionOf k) ≡ true) where
+  module _ (w : Disks) (h : InSync n b c l w)
+      (dirty : (d : ℕ) → has l d ≡ true → isDirty (w .labels) d (regionOf k) ≡ true) where
     in-l : source l < n
     in-l = member-below l n (source l) (h .agreed .known) (source-has l (h .agreed .filled))
 
     first : Stored (apply b (write (source l) k bytes) w)
-    first = record { storing = store-step (source l) in-l w (begin w h dirty); at-source = stored-here (source l) in-l w (begin w h dirty) }
+    first =
+        record {
+          storing = store-one (source l) in-l w (begin w h dirty);
+          at-source = stored-here (source l) in-l w (begin w h dirty);
+        }
 
     next : (d : ℕ) → d < n → Keeps b Stored (write d k bytes)
     next d hd v s = record {
-      storing = store-step d hd v (s .storing);
+      storing = store-one d hd v (s .storing);
       at-source = still-here d (source l) hd in-l v (s .storing) (s .at-source);
     }
 
     later-cut : (later : List Store) → blockStores n l k bytes ≡ write (source l) k bytes ∷ later → (j : ℕ)
         → Restartable n b new (applyAll b (take j later) (apply b (write (source l) k bytes) w))
-    later-cut later e j = let s = keeps-along b Stored (tail (subst (Each (Keeps b Stored)) e (each-block n l k bytes next))) _ first j in open-to-restart _ (s .storing) (s .at-source)
+    later-cut later e j =
+        let s = keeps-along b Stored (tail
+        (subst (Each (Keeps b Stored)) e (each-block n l k bytes next))) _ first j in open-to-restart _ (s .storing)
+        (s .at-source)
       where
         tail : {x : Store} {xs : List Store} → Each (Keeps b Stored) (x ∷ xs) → Each (Keeps b Stored) xs
         tail (cons p ps) = ps
 
-    blocks-done : Steady n b new l (applyAll b (blockStores n l k bytes) w)
+    blocks-done : InSync n b new l (applyAll b (blockStores n l k bytes) w)
     unfolding blockStores
     blocks-done =
         let (s, all) = made-members b (λ d. write d k bytes) l Storing (λ d v. Right n b new v d k) n
-        (λ d hd m v s. (store-step d hd v s, stored-here d hd v s))
+        (λ d hd m v s. (store-one d hd v s, stored-here d hd v s))
         (λ d e hd m r v s q. still-here d e hd (omega arith) v s q)
         w (begin w h dirty) in
         record {
@@ -181,52 +214,115 @@ module _ (n b : ℕ) (c : Contents) (l k : ℕ) (hk : k < b) (bytes : List ℕ) 
 
 -- ---- the whole write
 
-module _ (n b : ℕ) (c : Contents) (g l : ℕ) (w : Disks) (h : Steady n b c g w) (filled : 0 < l) (inside : (d : ℕ) → has l d ≡ true → has g d ≡ true)
-    (k : ℕ) (hk : k < b) (bytes : List ℕ) (full : length bytes ≡ blockSize) where
-  abbrev before : List Store
-  before = preparations n (w .labels) g l k
+module _ (c : Cabinet) (k : ℕ) (bytes : List ℕ) where
+  abbrev s : State
+  s = c .state
 
-  abbrev moved : Disks
-  moved = applyAll b (moveToLive n g l) w
+  abbrev n : ℕ
+  n = s .disks
 
-  still-dirty : (e q : ℕ) → isDirty (w .labels) e q ≡ true → isDirty (moved .labels) e q ≡ true
-  still-dirty e q z = rw (move-dirty b n g l w e) z
+  abbrev b : ℕ
+  b = s .blocks
 
-  prepare-cut : Along b (Restartable n b c) before w
-  unfolding preparations
-  prepare-cut = along-append b (Restartable n b c) (moveToLive n g l) (marks n (w .labels) l (regionOf k)) w (live-cut n b c g l w h filled inside)
-      (marks-cut n b c l (w .labels) (regionOf k) moved (live-done n b c g l w h filled inside) still-dirty)
+  abbrev l : ℕ
+  l = live s
 
-  prepare-done : Steady n b c l (applyAll b before w) × ((d : ℕ) → has l d ≡ true → isDirty (applyAll b before w .labels) d (regionOf k) ≡ true)
-  unfolding preparations
-  prepare-done = rw apply-append (marks-done n b c l (w .labels) (regionOf k) moved (live-done n b c g l w h filled inside) still-dirty)
+  abbrev w : Disks
+  w = disksOf s (c .area)
 
-  -- what the reference holds after these stores
-  abbrev pub after : List Store → Contents
-  after made = cond (include (source l) k made) (replaced k bytes c) c
+  module _ (pass : BlockPassed s (c .area) k bytes) where
+    -- it keeps the disks consistent
+    module _ (contents : Contents) (h : Consistent contents c) where
+      abbrev moved : Disks
+      moved = applyAll b (moveToLive n (currentOf (s .power)) l) w
 
-  pub write-cut : (p : ℕ) → Restartable n b (after (take p (before ++ blockStores n l k bytes))) (applyAll b (take p (before ++ blockStores n l k bytes)) w)
-  write-cut p =
-      let (later, e) = block-stores-begin n l k bytes filled (live-known n b c g l w h filled inside) in
-      rw e (go later e (cut before (write (source l) k bytes ∷ later) p))
-    where
-      uncounted : (made : List Store) → include (source l) k made ≡ false → Restartable n b c (applyAll b made w) → Restartable n b (after made) (applyAll b made w)
-      uncounted made e r = rw e r
+      moved-sync : InSync n b contents l moved
+      moved-sync = live-done c (pass .fit) (pass .runs) (pass .some) contents h
 
-      go : (later : List Store) → blockStores n l k bytes ≡ write (source l) k bytes ∷ later → Cut before (write (source l) k bytes ∷ later) p
-          → Restartable n b (after (take p (before ++ write (source l) k bytes ∷ later))) (applyAll b (take p (before ++ write (source l) k bytes ∷ later)) w)
-      go later e (in-first j z) = rw z (uncounted _ (early n (w .labels) g l k (source l) k j) (prepare-cut j))
-      go later e (in-second zero z) = rw (z, append-nil) (uncounted _ (prepared n (w .labels) g l k (source l) k) (steady-stops n b c (prepare-done .0)))
-      go later e (in-second (suc j) z) =
-          rw (z, include-append, source-store, prepared, apply-append)
-          (unfold applyAll in later-cut n b c l k hk bytes full (applyAll b before w) (prepare-done .0) (prepare-done .1) later e j)
+      still-dirty : (e q : ℕ) → isDirty (s .labels) e q ≡ true → isDirty (moved .labels) e q ≡ true
+      still-dirty e q z = rw (move-dirty b n (currentOf (s .power)) l w e) z
 
-  pub write-done : Steady n b (replaced k bytes c) l (applyAll b (before ++ blockStores n l k bytes) w)
-  write-done = rw apply-append (blocks-done n b c l k hk bytes full (applyAll b before w) (prepare-done .0) (prepare-done .1))
+      prepare-cut : Along b (Restartable n b contents) (preparations s k) w
+      unfolding preparations
+      prepare-cut =
+          along-append b (Restartable n b contents) (moveToLive n _ l) (marks n (s .labels) l (regionOf k)) w
+          (live-cut c (pass .fit) (pass .runs) (pass .some) contents h)
+          (marks-cut n b contents l (s .labels) (regionOf k) moved moved-sync still-dirty)
 
--- a write that is made whole counts
-pub write-counts : (n l k : ℕ) (bytes : List ℕ) (labels : List Label) (g : ℕ) → 0 < l → l < 2 ^ n
-    → include (source l) k (preparations n labels g l k ++ blockStores n l k bytes) ≡ true
-write-counts n l k bytes labels g filled known =
-    let (later, e) = block-stores-begin n l k bytes filled known in
-    rw (e, include-append, source-store, prepared)
+      abbrev marked : Disks
+      marked = applyAll b (preparations s k) w
+
+      prepare-done : InSync n b contents l marked
+          × ((d : ℕ) → has l d ≡ true → isDirty (marked .labels) d (regionOf k) ≡ true)
+      unfolding preparations
+      prepare-done = rw apply-append (marks-done n b contents l (s .labels) (regionOf k) moved moved-sync still-dirty)
+
+      -- what the reference holds after these stores
+      abbrev contentsWith : List Store → Contents
+      contentsWith stores = cond (include (source l) k stores) (replaced k bytes contents) contents
+
+      uncounted : (stores : List Store) → include (source l) k stores ≡ false
+          → Restartable n b contents (applyAll b stores w) → Restartable n b (contentsWith stores) (applyAll b stores w)
+      uncounted stores e r = rw e r
+
+      write-cut : (budget : ℕ)
+          → Restartable n b (afterWrites (carriedWrite k bytes budget s ∷ []) contents)
+          (applyAll b (take budget (writeList s k bytes)) w)
+      unfolding writeList afterWrites counts
+      write-cut budget =
+          let (later, e) = block-stores-begin n l k bytes (pass .some) (below-pow l n .0 (live-known s (pass .fit))) in
+          rw e (go later e (cut (preparations s k) (write (source l) k bytes ∷ later) budget))
+        where
+          go : (later : List Store) → blockStores n l k bytes ≡ write (source l) k bytes ∷ later
+              → Cut (preparations s k) (write (source l) k bytes ∷ later) budget
+              → Restartable n b (contentsWith (take budget (preparations s k ++ write (source l) k bytes ∷ later)))
+              (applyAll b (take budget (preparations s k ++ write (source l) k bytes ∷ later)) w)
+          go later e (in-first j z) = rw z (uncounted _ (early s k (source l) k j) (prepare-cut j))
+          go later e (in-second zero z) =
+              rw (z, append-nil)
+              (uncounted _ (prepared s k (source l) k) (sync-restartable n b contents (prepare-done .0)))
+          go later e (in-second (suc j) z) =
+              rw (z, include-append, source-store, prepared, apply-append)
+              (unfold applyAll in later-cut n b contents l k (pass .known) bytes (pass .full) marked
+              (prepare-done .0) (prepare-done .1) later e j)
+
+      write-done : (budget : ℕ) → length (writeList s k bytes) ≤ budget
+          → InSync n b (afterWrites (carriedWrite k bytes budget s ∷ []) contents) l
+          (applyAll b (writeList s k bytes) w)
+      unfolding writeList afterWrites counts
+      write-done budget i =
+          rw (take-all budget _ i, write-counts s k bytes (pass .fit) (pass .some), apply-append)
+          (blocks-done n b contents l k (pass .known) bytes (pass .full) marked (prepare-done .0) (prepare-done .1))
+
+    -- and the labels fit
+    write-fits : Each (KeepsFit n b) (writeList s k bytes)
+    unfolding writeList preparations
+    write-fits =
+        each-append
+        (each-append (live-fits c (pass .fit) (pass .runs) (pass .some))
+        (each-mark _ _ l (regionOf k) (λ d i. fit-mark _ _ d _ i (region-known b k (pass .known)))))
+        (each-block _ l k bytes (λ d i. fit-write _ _ d k bytes))
+
+    abbrev Current : Disks → Type 0
+    Current v = FitCurrent n (v .labels) l
+
+    write-current : Proper s → Current (applyAll b (writeList s k bytes) w)
+    unfolding writeList preparations
+    write-current p =
+        rw (apply-append, apply-append)
+        (keeps _ Current (each-block _ l k bytes (λ d i. current-write _ _ l d k bytes)) _
+        (keeps _ Current (each-mark _ _ l (regionOf k) (λ d i. current-mark _ _ l d (regionOf k))) _
+        (live-current c (pass .fit) (pass .runs) (pass .some) p)))
+
+  pub write-preserves : (output : List ℕ) (budget : ℕ)
+      → Preserves c (carriedBy (Write k budget) bytes c) (writeOutcome s (c .area) output k bytes budget)
+  unfolding writeOutcome blockRefusals carriedBy
+  write-preserves output budget =
+      unless-refused c _ _ output _ refl (λ ne. rw (ne-eqb _ 0 ne))
+      (λ e.
+      let pass = block-passed s (c .area) k bytes e in
+      rw (eq-eqb _ 0 e)
+      (carried-out c _ (writeList s k bytes) (write-fits pass) budget output _
+      (λ contents h. write-cut pass contents h budget)
+      (λ i. runs-with c _ (writeList s k bytes) (write-fits pass) l output (write-current pass)
+      (λ contents h. write-done pass contents h budget i))))

@@ -1,23 +1,24 @@
--- Document 01, "Labels and cuts to check by hand": H1 to H12 as one statement over a list of them. (H13, H14 and the session are run.)
+-- Document 01, "Labels and cuts to check by hand": H1 to H12 as one statement over a list of them. (H13, H14 and the
+-- session are run.)
 use mathlib.Core.Path.{_≡_}
-use mathlib.Core.List.{List, [], _∷_, _++_}
-use Prim.Native.Nat.{ℕ, _-_}
-use lib.ListN.{length, replicate}
+use mathlib.Core.List.{List, [], _∷_}
+use Prim.Native.Nat.{ℕ}
+use lib.ListN.{length}
 use Rattle.label.specs.declared.Label.{Label}
 use Rattle.label.specs.Form.{narrow}
-use Rattle.label.specs.Bytes.{encode}
+use Rattle.label.specs.Bytes.{blank, encode}
 use Rattle.label.specs.Reading.{reading, found}
 use Rattle.protocol.specs.declared.Power.the-variants.{Stopped}
 use Rattle.protocol.specs.declared.State.{State}
-use Rattle.protocol.specs.Geometry.{mostDisks}
-use Rattle.protocol.specs.States.{blank, currentOf}
+use Rattle.protocol.specs.States.{filledUp, stateOf, currentOf}
 use Rattle.protocol.specs.Outcomes.{Outcome}
 use Rattle.protocol.specs.Calls.{zeroArea, restartOutcome}
 
 pub data Case : Type 0 where
-  -- "C lists disk 0 first; T is none unless said": with these sets on the labels and this reach, a restart gives a number and runs with a set, 0 if refused
+  -- "C lists disk 0 first; T is none unless said": with these sets on the labels and this reach, a restart gives a
+  -- number and runs with a set, 0 if refused
   restarts : (committed tentative : List ℕ) (online : ℕ) (refusal set : ℕ) → Case
-  -- the label of a disk of n, and its bytes
+  -- the label of a disk of n, and its bytes in the form of document 01
   writes : (number disks : ℕ) → Label → (bytes : List ℕ) → Case
 
 -- labels with these C and T, and T none where the list has no more
@@ -28,27 +29,22 @@ labelled (c ∷ cs) (t ∷ ts) = record { committed = c; tentative = t; dirty = 
 
 -- a stopped cabinet of one block a disk
 unfoldable pub stoppedWith : List ℕ → List ℕ → ℕ → State
-stoppedWith cs ts online = record {
-  disks = length cs;
-  blocks = 1;
-  labels = labelled cs ts ++ replicate (mostDisks - length cs) blank;
-  online = online;
-  power = Stopped;
-}
+stoppedWith cs ts online = stateOf (length cs) 1 (filledUp (length cs) (labelled cs ts)) online Stopped
 
 -- its restart, with more supply than any list needs
 unfoldable pub restarted : List ℕ → List ℕ → ℕ → Outcome
 restarted cs ts online = restartOutcome (stoppedWith cs ts online) (zeroArea (length cs) 1) [] 99
 
-abbrev pub Holds : Case → Type 0
-Holds (restarts cs ts online refusal set) =
-    (restarted cs ts online .answer .refusal ≡ refusal) × (currentOf (restarted cs ts online .answer .state .power) ≡ set)
+abbrev pub CaseHolds : Case → Type 0
+CaseHolds (restarts cs ts online refusal set) =
+    (restarted cs ts online .answer .refusal ≡ refusal)
+    × (currentOf (restarted cs ts online .answer .state .power) ≡ set)
 -- both ways: the bytes written, and read
-Holds (writes d n l bytes) = (encode narrow d n l ≡ bytes) × (reading narrow bytes ≡ found d n l (length bytes))
+CaseHolds (writes d n l bytes) = (encode narrow d n l ≡ bytes) × (reading narrow bytes ≡ found d n l (length bytes))
 
 abbrev pub AllHold : List Case → Type 0
 AllHold [] = Unit {0}
-AllHold (case ∷ cases) = Holds case × AllHold cases
+AllHold (case ∷ cases) = CaseHolds case × AllHold cases
 
 abbrev pub handCases : List Case
 handCases =

@@ -1,21 +1,22 @@
--- Document 01, "What each call refuses": each call as one function of all that it is given, to all that it yields. The refusals stand in the order
--- of the paper's paragraphs; 15 is in Outcomes. What a call does not take of area and output, it leaves.
-use mathlib.Core.Bool.{Bool, true, false, not, _||_}
-use mathlib.Core.List.{List, [], _∷_, _++_}
-use Prim.Native.Nat.{ℕ, _-_}
+-- Document 01, "What each call refuses": each call as one function of all that it is given, to all that it yields. The
+-- refusals stand in the order of the paper's paragraphs; 15 is in Outcomes. What a call does not take of area and
+-- output, it leaves.
+use mathlib.Core.Bool.{Bool, not}
+use mathlib.Core.List.{List, [], _∷_}
+use Prim.Native.Nat.{ℕ}
 use lib.Dec.{eqb, ltb}
 use lib.ListN.{length, replicate}
 use Rattle.sets.specs.Sets.{has, union, difference, singleton, all}
-use Rattle.label.specs.Form.{narrow}
-use Rattle.label.specs.Refusals.{outside}
-use Rattle.protocol.specs.declared.Power.the-variants.{Stopped, Running}
+use Rattle.label.specs.declared.Label.{Label}
+use Rattle.protocol.specs.declared.Power.the-variants.{Running}
 use Rattle.protocol.specs.declared.State.{State}
-use Rattle.protocol.specs.Geometry.{mostDisks, mostBlocks, blockSize, areaSize, block}
-use Rattle.protocol.specs.States.{blank, currentOf, isRunning, live, source}
+use Rattle.protocol.specs.Geometry.{wrongDiskCount, wrongBlockCount, blockSize, areaSize, block}
+use Rattle.protocol.specs.States.{filledUp, stateOf, withOnline, poweredOff}
+use Rattle.protocol.specs.States.{zeroState, currentOf, isRunning, live, source}
 use Rattle.protocol.specs.Soundness.{sound}
 use Rattle.protocol.specs.Lists.{writeList, joinList, cleanList, restartList}
-use Rattle.protocol.specs.Naming.{Found, none, one, several, named}
-use Rattle.protocol.specs.Outcomes.{Outcome, outcome, refusedOr, carryOut}
+use Rattle.protocol.specs.Naming.{Found, isNone, isSeveral, theSet, foundBy}
+use Rattle.protocol.specs.Outcomes.{Outcome, outcome, refusedOr, runsWith, carryOut}
 
 -- ---- what refusals ask
 
@@ -25,7 +26,8 @@ wrongArea n b area = not (eqb (length area) (areaSize n b))
 abbrev pub notBlock : List ℕ → Bool
 notBlock bytes = not (eqb (length bytes) blockSize)
 
--- "Every call that takes a state: 1, the state is not sound. Then, where it takes the disk area (read, write, join, restart): 2, its length is wrong."
+-- "Every call that takes a state: 1, the state is not sound. Then, where it takes the disk area (read, write, join,
+-- restart): 2, its length is wrong."
 abbrev pub unsound : State → ℕ × Bool
 unsound s = (1, not (sound s))
 
@@ -44,30 +46,21 @@ noneLive s = (12, eqb (live s) 0)
 
 -- ---- fresh
 
-abbrev pub wrongBlockCount : ℕ → Bool
-wrongBlockCount b = ltb b 1 || ltb mostBlocks b
-
 -- "Fresh: 4, n outside 1 to 8. 5, b outside 1 to 64. 2."
 unfoldable pub formatRefusals : ℕ → ℕ → List ℕ → List (ℕ × Bool)
-formatRefusals n b area = (4, outside narrow n) ∷ (5, wrongBlockCount b) ∷ (2, wrongArea n b area) ∷ []
+formatRefusals n b area = (4, wrongDiskCount n) ∷ (5, wrongBlockCount b) ∷ (2, wrongArea n b area) ∷ []
 
--- "It gives all disks in reach, running, C naming all n, T and dirty 0"
+-- "C naming all n, T and dirty 0"
+abbrev pub freshLabel : ℕ → Label
+freshLabel n = record { committed = all n; tentative = 0; dirty = 0 }
+
+-- "It gives all disks in reach, running"
 unfoldable pub formatted : ℕ → ℕ → State
-formatted n b = record {
-  disks = n;
-  blocks = b;
-  labels = replicate n (record { committed = all n; tentative = 0; dirty = 0 }) ++ replicate (mostDisks - n) blank;
-  online = all n;
-  power = Running (all n);
-}
+formatted n b = stateOf n b (filledUp n (replicate n (freshLabel n))) (all n) (Running (all n))
 
 -- "all blocks zero"
 unfoldable pub zeroArea : ℕ → ℕ → List ℕ
 zeroArea n b = replicate (areaSize n b) 0
-
--- "Fresh and assembling are given no state; refused, they yield one that is all zero and stopped"
-unfoldable pub zeroState : State
-zeroState = record { disks = 0; blocks = 0; labels = replicate mostDisks blank; online = 0; power = Stopped }
 
 -- "no counted stores"
 unfoldable pub formatOutcome : List ℕ → List ℕ → ℕ → ℕ → Outcome
@@ -91,11 +84,13 @@ blockRefusals s area k bytes =
 -- "Read copies block k from the lowest member of L."
 unfoldable pub readOutcome : State → List ℕ → List ℕ → ℕ → Outcome
 readOutcome s area output k =
-    refusedOr (blockRefusals s area k output) s area output (outcome 0 0 s area (block (s .blocks) area (source (live s)) k))
+    refusedOr (blockRefusals s area k output) s area output
+    (outcome 0 0 s area (block (s .blocks) area (source (live s)) k))
 
 unfoldable pub writeOutcome : State → List ℕ → List ℕ → ℕ → List ℕ → ℕ → Outcome
 writeOutcome s area output k bytes budget =
-    refusedOr (blockRefusals s area k bytes) s area output (carryOut (writeList s k bytes) budget (live s) s area output)
+    refusedOr (blockRefusals s area k bytes) s area output
+    (carryOut (writeList s k bytes) budget s area output (runsWith (live s) s output))
 
 -- ---- join
 
@@ -113,7 +108,8 @@ joinRefusals s area d =
 
 unfoldable pub joinOutcome : State → List ℕ → List ℕ → ℕ → ℕ → Outcome
 joinOutcome s area output d budget =
-    refusedOr (joinRefusals s area d) s area output (carryOut (joinList s d) budget (union (live s) (singleton d)) s area output)
+    refusedOr (joinRefusals s area d) s area output
+    (carryOut (joinList s d) budget s area output (runsWith (union (live s) (singleton d)) s output))
 
 -- ---- clean, the paper's quiet
 
@@ -123,29 +119,10 @@ cleanRefusals s = unsound s ∷ stopped s ∷ noneLive s ∷ []
 
 unfoldable pub cleanOutcome : State → List ℕ → List ℕ → ℕ → Outcome
 cleanOutcome s area output budget =
-    refusedOr (cleanRefusals s) s area output (carryOut (cleanList s) budget (currentOf (s .power)) s area output)
+    refusedOr (cleanRefusals s) s area output
+    (carryOut (cleanList s) budget s area output (runsWith (currentOf (s .power)) s output))
 
 -- ---- restart
-
-abbrev pub isNone : Found → Bool
-isNone none = true
-isNone (one x) = false
-isNone several = false
-
-abbrev pub isSeveral : Found → Bool
-isSeveral none = false
-isSeveral (one x) = false
-isSeveral several = true
-
--- the set, where one is named
-abbrev pub theSet : Found → ℕ
-theSet none = 0
-theSet (one x) = x
-theSet several = 0
-
--- what a restart at this moment names
-unfoldable pub foundBy : State → Found
-foundBy s = named (s .disks) (s .online) (s .labels)
 
 -- "Restart: 7, running. 13. 14. 15.", where the labels name this
 abbrev pub refusalsFinding : State → List ℕ → Found → List (ℕ × Bool)
@@ -163,28 +140,23 @@ restartRefusals s area = refusalsFinding s area (foundBy s)
 unfoldable pub restartOutcome : State → List ℕ → List ℕ → ℕ → Outcome
 restartOutcome s area output budget =
     refusedOr (restartRefusals s area) s area output
-    (carryOut (restartList s (theSet (foundBy s))) budget (theSet (foundBy s)) s area output)
+    (carryOut (restartList s (theSet (foundBy s))) budget s area output (runsWith (theSet (foundBy s)) s output))
 
 -- ---- detach, attach and power off: the paper's lose, return and cut
 
--- "Lose, return and cut change only R or the power condition."
-abbrev pub withOnline : State → ℕ → State
-withOnline s online = record { disks = s .disks; blocks = s .blocks; labels = s .labels; online = online; power = s .power }
-
-abbrev pub poweredOff : State → State
-poweredOff s = record { disks = s .disks; blocks = s .blocks; labels = s .labels; online = s .online; power = Stopped }
-
 -- "Lose and return: 8. Cut: none of its own."
-unfoldable pub plugRefusals : State → ℕ → List (ℕ × Bool)
-plugRefusals s d = unsound s ∷ noSuchDisk s d ∷ []
+unfoldable pub reachRefusals : State → ℕ → List (ℕ × Bool)
+reachRefusals s d = unsound s ∷ noSuchDisk s d ∷ []
 
 unfoldable pub detachOutcome : State → List ℕ → List ℕ → ℕ → Outcome
 detachOutcome s area output d =
-    refusedOr (plugRefusals s d) s area output (outcome 0 0 (withOnline s (difference (s .online) (singleton d))) area output)
+    refusedOr (reachRefusals s d) s area output
+    (outcome 0 0 (withOnline s (difference (s .online) (singleton d))) area output)
 
 unfoldable pub attachOutcome : State → List ℕ → List ℕ → ℕ → Outcome
 attachOutcome s area output d =
-    refusedOr (plugRefusals s d) s area output (outcome 0 0 (withOnline s (union (s .online) (singleton d))) area output)
+    refusedOr (reachRefusals s d) s area output
+    (outcome 0 0 (withOnline s (union (s .online) (singleton d))) area output)
 
 unfoldable pub powerOffOutcome : State → List ℕ → List ℕ → Outcome
 powerOffOutcome s area output = refusedOr (unsound s ∷ []) s area output (outcome 0 0 (poweredOff s) area output)

@@ -8,20 +8,23 @@ use Rattle.sets.specs.Sets.{size}
 use Rattle.protocol.specs.declared.Call.the-variants.{Read, Write}
 use Rattle.protocol.specs.declared.State.{State}
 use Rattle.protocol.specs.Geometry.{areaSize}
-use Rattle.protocol.specs.States.{currentOf, live}
+use Rattle.protocol.specs.States.{live}
 use Rattle.protocol.specs.Soundness.{InRange, Sound, Proper}
 use Rattle.protocol.specs.Lists.{preparations, writeList}
 use Rattle.protocol.specs.Calls.{formatOutcome, writeOutcome}
 use Rattle.protocol.specs.Saving.{saveOutcome, assembleAnswer}
 use Rattle.protocol.specs.History.{Step, Cabinet, outcomeOf}
 use Rattle.protocol.specs.Reference.{Contents, replaced, carriedBy, afterWrites}
-use Rattle.protocol.specs.Demand3.{CallIn, result, reference}
+use Rattle.protocol.specs.Demand3.{CallIn, result, contentsAt}
 
 -- ---- fresh
 
--- A fresh call is done for every n and b in range and an area of their size: what is said of lists that a done fresh begins is said of each such cabinet.
+-- A fresh call is done for every n and b in range and an area of their size: what is said of lists that a done fresh
+-- begins is said of each such cabinet.
 abbrev pub FormatDone : Type 0
-FormatDone = (area output : List ℕ) (n b : ℕ) → InRange n b → length area ≡ areaSize n b → formatOutcome area output n b .answer .refusal ≡ 0
+FormatDone =
+    (area output : List ℕ) (n b : ℕ) → InRange n b → length area ≡ areaSize n b
+    → formatOutcome area output n b .answer .refusal ≡ 0
 
 -- ---- soundness
 
@@ -29,8 +32,10 @@ pub record SoundnessKept : Type 0 where
   -- whatever a call is given beside a sound state, and wherever it is cut
   pub by-calls : (x : Step) (c : Cabinet) → Proper (c .state) → Proper (outcomeOf x c .answer .state)
   pub by-save : (s : State) (area slots : List ℕ) → Proper s → Proper (saveOutcome s area slots .answer .state)
-  pub by-format : (area output : List ℕ) (n b : ℕ) → formatOutcome area output n b .answer .refusal ≡ 0 → Proper (formatOutcome area output n b .answer .state)
-  pub by-assemble : (n b online : ℕ) (slots : List ℕ) → assembleAnswer n b online slots .refusal ≡ 0 → Proper (assembleAnswer n b online slots .state)
+  pub by-format : (area output : List ℕ) (n b : ℕ) → formatOutcome area output n b .answer .refusal ≡ 0
+      → Proper (formatOutcome area output n b .answer .state)
+  pub by-assemble : (n b online : ℕ) (slots : List ℕ) → assembleAnswer n b online slots .refusal ≡ 0
+      → Proper (assembleAnswer n b online slots .state)
   -- so no call of a list that a done fresh begins gives 1
   pub in-lists : (n b : ℕ) (lent : List ℕ) → formatOutcome lent [] n b .answer .refusal ≡ 0
       → (calls : List Step) (c : CallIn calls) → result n b lent c .answer .refusal ≢ 1
@@ -41,7 +46,8 @@ pub record SoundnessKept : Type 0 where
 abbrev pub WriteBound : Type 0
 WriteBound = (s : State) (k : ℕ) (bytes : List ℕ) → Sound s → length (writeList s k bytes) ≤ 4 * size (live s)
 
--- "So a write that gives 0 counts, and one cut before that store or otherwise refused does not": what a write leaves of any reference contents.
+-- "So a write that gives 0 counts, and one cut before that store or otherwise refused does not": what a write leaves of
+-- any reference contents.
 module _ (c : Cabinet) (k budget : ℕ) (bytes output : List ℕ) where
   abbrev pub refusalOf : ℕ
   refusalOf = writeOutcome (c .state) (c .area) output k bytes budget .answer .refusal
@@ -52,11 +58,12 @@ module _ (c : Cabinet) (k budget : ℕ) (bytes output : List ℕ) where
   pub record Counting (contents : Contents) : Type 0 where
     pub acknowledged : refusalOf ≡ 0 → contentsLeft contents ≡ replaced k bytes contents
     pub refused : refusalOf ≢ 0 → refusalOf ≢ 15 → contentsLeft contents ≡ contents
-    pub cut-early : budget ≤ length (preparations (c .state .disks) (c .state .labels) (currentOf (c .state .power)) (live (c .state)) k)
-        → contentsLeft contents ≡ contents
+    pub cut-early : budget ≤ length (preparations (c .state) k) → contentsLeft contents ≡ contents
 
 abbrev pub WritesCount : Type 0
-WritesCount = (c : Cabinet) (k budget : ℕ) (bytes output : List ℕ) (contents : Contents) → Counting c k budget bytes output contents
+WritesCount =
+    (c : Cabinet) (k budget : ℕ) (bytes output : List ℕ) (contents : Contents)
+    → Counting c k budget bytes output contents
 
 -- ---- reads
 
@@ -64,4 +71,4 @@ WritesCount = (c : Cabinet) (k budget : ℕ) (bytes output : List ℕ) (contents
 abbrev pub ReadsRight : Type 0
 ReadsRight = (n b : ℕ) (lent : List ℕ) → formatOutcome lent [] n b .answer .refusal ≡ 0
     → (calls : List Step) (c : CallIn calls) (k : ℕ) → c .this .call ≡ Read k
-    → result n b lent c .answer .refusal ≡ 0 → result n b lent c .output ≡ reference n b c k
+    → result n b lent c .answer .refusal ≡ 0 → result n b lent c .output ≡ contentsAt n b c k

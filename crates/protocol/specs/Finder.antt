@@ -1,5 +1,5 @@
--- A finder of the set that a restart names. It tries few sets, since every candidate of a stage is one that some disk's own label has. It stands in no
--- promise.
+-- A finder of the set that a restart names. It tries few sets, since every candidate of a stage is one that some disk's
+-- own label has. It stands in no promise.
 use mathlib.Core.Path.{_≡_}
 use mathlib.Core.Bool.{cond}
 use mathlib.Core.List.{List}
@@ -7,7 +7,8 @@ use Prim.Native.Nat.{ℕ, zero, suc, _^_, _<_}
 use lib.Dec.{eqb}
 use Rattle.label.specs.declared.Label.{Label}
 use Rattle.protocol.specs.States.{labelAt}
-use Rattle.protocol.specs.Naming.{Stage, first, second, third, Found, none, one, several, candidate, stages, decide, named}
+use Rattle.protocol.specs.Naming.{Stage, first, second, third, Found, none, one}
+use Rattle.protocol.specs.Naming.{several, candidate, stages, decide, named}
 
 -- the set that a stage tries for a disk
 unfoldable pub tried : Stage → Label → ℕ

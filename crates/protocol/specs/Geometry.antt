@@ -1,17 +1,33 @@
 -- Document 01, "What the cabinet is": the limits of a cabinet, and where its blocks stand.
+use mathlib.Core.Bool.{Bool, _||_}
 use mathlib.Core.List.{List}
 use Prim.Native.Nat.{ℕ, _+_, _-_, _*_, _/_}
+use lib.Dec.{ltb}
 use lib.ListN.{take, drop}
+use Rattle.label.specs.declared.Form.{Form}
 use Rattle.label.specs.Form.{narrow}
-use Rattle.label.specs.Writing.{splice}
+use Rattle.label.specs.Rules.{outside}
+use Rattle.buffers.specs.Buffers.{splice}
+
+-- the form of the labels that the cabinet has, saves and assembles
+abbrev pub labelForm : Form
+labelForm = narrow
 
 -- "n disks (1 to 8)": as many as the form of its labels allows
 abbrev pub mostDisks : ℕ
-mostDisks = narrow .mostDisks
+mostDisks = labelForm .most
+
+-- "n outside 1 to 8"
+abbrev pub wrongDiskCount : ℕ → Bool
+wrongDiskCount n = outside labelForm n
 
 -- "b blocks a disk (1 to 64)"
 abbrev pub mostBlocks : ℕ
 mostBlocks = 64
+
+-- "b outside 1 to 64"
+abbrev pub wrongBlockCount : ℕ → Bool
+wrongBlockCount b = ltb b 1 || ltb mostBlocks b
 
 -- "A block is 64 bytes."
 abbrev pub blockSize : ℕ
@@ -20,6 +36,10 @@ blockSize = 64
 -- "A region is 8 blocks, counted from block 0; the last may be short."
 abbrev pub regionSize : ℕ
 regionSize = 8
+
+-- so many has a disk of the most blocks
+abbrev pub mostRegions : ℕ
+mostRegions = mostBlocks / regionSize
 
 unfoldable pub regionOf : ℕ → ℕ
 regionOf k = k / regionSize

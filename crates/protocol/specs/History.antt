@@ -5,7 +5,8 @@ use Rattle.protocol.specs.declared.Call.{Call}
 use Rattle.protocol.specs.declared.Call.the-variants.{Read, Write, Join, Clean, Restart, Detach, Attach, PowerOff}
 use Rattle.protocol.specs.declared.State.{State}
 use Rattle.protocol.specs.Outcomes.{Outcome}
-use Rattle.protocol.specs.Calls.{readOutcome, writeOutcome, joinOutcome, cleanOutcome, restartOutcome, detachOutcome, attachOutcome, powerOffOutcome}
+use Rattle.protocol.specs.Calls.{readOutcome, writeOutcome, joinOutcome, cleanOutcome}
+use Rattle.protocol.specs.Calls.{restartOutcome, detachOutcome, attachOutcome, powerOffOutcome}
 
 -- A call of the list, "with whatever numbers and with data and output of its own".
 pub record Step : Type 0 where

@@ -1,4 +1,5 @@
--- Document 01, "Stores and supply": the list of stores of each call that changes disks, as the state at the call fixes it.
+-- Document 01, "Stores and supply": the list of stores of each call that changes disks, as the state at the call fixes
+-- it.
 use mathlib.Core.Bool.{cond}
 use mathlib.Core.List.{List, [], _∷_, _++_}
 use Prim.Native.Nat.{ℕ, _+_, _*_}
@@ -40,12 +41,12 @@ unfoldable pub blockStores : ℕ → ℕ → ℕ → List ℕ → List Store
 blockStores n l k bytes = forEach n l (λ d. write d k bytes ∷ [])
 
 -- what a write of block k does before its first block store
-unfoldable pub preparations : ℕ → List Label → ℕ → ℕ → ℕ → List Store
-preparations n labels g l k = moveToLive n g l ++ marks n labels l (regionOf k)
+unfoldable pub preparations : State → ℕ → List Store
+preparations s k =
+    moveToLive (s .disks) (currentOf (s .power)) (live s) ++ marks (s .disks) (s .labels) (live s) (regionOf k)
 
 unfoldable pub writeList : State → ℕ → List ℕ → List Store
-writeList s k bytes =
-    preparations (s .disks) (s .labels) (currentOf (s .power)) (live s) k ++ blockStores (s .disks) (live s) k bytes
+writeList s k bytes = preparations s k ++ blockStores (s .disks) (live s) k bytes
 
 -- ---- join
 
@@ -64,7 +65,8 @@ joinList s d =
 -- "for each region ascending, clear the bit on each disk of L, ascending, where it stands"
 unfoldable pub cleanList : State → List Store
 cleanList s =
-    ascending (regions (s .blocks)) (λ r. forEach (s .disks) (live s) (λ d. cond (isDirty (s .labels) d r) (clear d r ∷ []) []))
+    ascending (regions (s .blocks))
+    (λ r. forEach (s .disks) (live s) (λ d. cond (isDirty (s .labels) d r) (clear d r ∷ []) []))
 
 -- ---- restart
 
@@ -80,13 +82,14 @@ copies n b s r = forBlocks b r (λ k. forEach n (difference s (singleton (source
 unfoldable pub clears : ℕ → ℕ → ℕ → List Store
 clears n s r = forEach n s (λ d. clear d r ∷ [])
 
-unfoldable pub mend : ℕ → ℕ → ℕ → ℕ → List Store
-mend n b s r = copies n b s r ++ clears n s r
+-- the resync of one region
+unfoldable pub resync : ℕ → ℕ → ℕ → ℕ → List Store
+resync n b s r = copies n b s r ++ clears n s r
 
 -- "For each region, ascending, that is dirty on any disk of S"
-unfoldable pub mends : ℕ → ℕ → List Label → ℕ → List Store
-mends n b labels s = ascending (regions b) (λ r. cond (some n s (λ d. isDirty labels d r)) (mend n b s r) [])
+unfoldable pub resyncs : ℕ → ℕ → List Label → ℕ → List Store
+resyncs n b labels s = ascending (regions b) (λ r. cond (some n s (λ d. isDirty labels d r)) (resync n b s r) [])
 
 -- "At the end store C = S and T = 0 on every member, ascending."
 unfoldable pub restartList : State → ℕ → List Store
-restartList s set = mends (s .disks) (s .blocks) (s .labels) set ++ commits (s .disks) set
+restartList s set = resyncs (s .disks) (s .blocks) (s .labels) set ++ commits (s .disks) set

@@ -1,4 +1,5 @@
--- "for each .., ascending": the one way in which lists are built and members are looked at. Each goes up from 0, as the code's loops do.
+-- "for each .., ascending": the one way in which lists are built and members are looked at. Each goes up from 0, as the
+-- code's loops do.
 use mathlib.Core.Bool.{Bool, true, false, not, cond, _&&_, _||_}
 use mathlib.Core.List.{List, [], _++_}
 use Prim.Native.Nat.{ℕ, zero, suc}

@@ -1,12 +1,13 @@
 -- Document 01, "Which set a restart names". "The definition speaks of all sets X and not of a search."
 use mathlib.Core.Path.{_≡_}
 use mathlib.Core.Logic.{_≢_, _⊎_}
-use mathlib.Core.Bool.{Bool, true, cond, _&&_, _||_}
+use mathlib.Core.Bool.{Bool, true, false, cond, _&&_, _||_}
 use mathlib.Core.List.{List, [], _∷_}
 use Prim.Native.Nat.{ℕ, _^_, _<_}
 use lib.Dec.{eqb, ltb}
 use Rattle.sets.specs.Sets.{has, subset}
 use Rattle.label.specs.declared.Label.{Label}
+use Rattle.protocol.specs.declared.State.{State}
 use Rattle.protocol.specs.Loops.{ascending, every, some}
 use Rattle.protocol.specs.States.{labelAt}
 
@@ -50,11 +51,14 @@ pub data Exactly (P : ℕ → Type 0) : Found → Type 0 where
   one-set : {x : ℕ} → P x → ((y : ℕ) → P y → y ≡ x) → Exactly P (one x)
   several-sets : {x y : ℕ} → P x → P y → x ≢ y → Exactly P several
 
--- "The first stage with a candidate decides: one candidate is the set, more than one is refused with 14. No candidate in any stage is 13."
+-- "The first stage with a candidate decides: one candidate is the set, more than one is refused with 14. No candidate
+-- in any stage is 13."
 pub data Decides (online : ℕ) (labels : List Label) : List Stage → Found → Type 0 where
-  here : {stage : Stage} {later : List Stage} {f : Found} → f ≢ none → Exactly (Candidate stage online labels) f → Decides online labels (stage ∷ later) f
+  here : {stage : Stage} {later : List Stage} {f : Found} → f ≢ none → Exactly (Candidate stage online labels) f
+      → Decides online labels (stage ∷ later) f
   further : {stage : Stage} {later : List Stage} {f : Found}
-      → Exactly (Candidate stage online labels) none → Decides online labels later f → Decides online labels (stage ∷ later) f
+      → Exactly (Candidate stage online labels) none → Decides online labels later f
+      → Decides online labels (stage ∷ later) f
   nowhere : Decides online labels [] none
 
 abbrev pub stages : List Stage
@@ -64,7 +68,7 @@ stages = first ∷ second ∷ third ∷ []
 abbrev pub Names : ℕ → List Label → Found → Type 0
 Names online labels f = Decides online labels stages f
 
--- ---- the same as a function, with the candidates of a stage as the list of all that there are among the 2 ^ n sets of disks below n
+-- ---- the same as a function: the candidates of a stage are listed, of all the 2 ^ n sets of disks below n
 
 unfoldable pub backs : Stage → Label → ℕ → Bool
 backs first l x = eqb (l .tentative) x
@@ -87,10 +91,10 @@ unfoldable pub candidates : Stage → ℕ → ℕ → List Label → List ℕ
 candidates stage n online labels = ascending (2 ^ n) (λ x. cond (candidate stage n online labels x) (x ∷ []) [])
 
 -- what a list of different sets amounts to
-unfoldable pub count : List ℕ → Found
-count [] = none
-count (x ∷ []) = one x
-count (x ∷ y ∷ more) = several
+unfoldable pub foundIn : List ℕ → Found
+foundIn [] = none
+foundIn (x ∷ []) = one x
+foundIn (x ∷ y ∷ more) = several
 
 unfoldable pub orLater : Found → Found → Found
 orLater none later = later
@@ -103,9 +107,31 @@ decide found [] = none
 decide found (stage ∷ later) = orLater (found stage) (decide found later)
 
 unfoldable pub named : ℕ → ℕ → List Label → Found
-named n online labels = decide (λ stage. count (candidates stage n online labels)) stages
+named n online labels = decide (λ stage. foundIn (candidates stage n online labels)) stages
 
 -- The function gives the answer of the paper's sentences, and they have no other.
 pub record NamedAsDefined (n online : ℕ) (labels : List Label) : Type 0 where
   pub answers : Names online labels (named n online labels)
   pub only : (f : Found) → Names online labels f → f ≡ named n online labels
+
+-- ---- reading what is named
+
+abbrev pub isNone : Found → Bool
+isNone none = true
+isNone (one x) = false
+isNone several = false
+
+abbrev pub isSeveral : Found → Bool
+isSeveral none = false
+isSeveral (one x) = false
+isSeveral several = true
+
+-- the set, where one is named
+abbrev pub theSet : Found → ℕ
+theSet none = 0
+theSet (one x) = x
+theSet several = 0
+
+-- what a restart at this moment names
+unfoldable pub foundBy : State → Found
+foundBy s = named (s .disks) (s .online) (s .labels)

@@ -1,13 +1,14 @@
--- Document 01, "The list and the book": the reference contents, which are the paper's book: the right block for each number, from n, b and the list of
--- calls alone.
+-- Document 01, "The list and the book": the reference contents, which are the paper's book: the right block for each
+-- number, from n, b and the list of calls alone.
 use mathlib.Core.Bool.{Bool, false, cond, _&&_, _||_}
 use mathlib.Core.List.{List, [], _∷_}
 use Prim.Native.Nat.{ℕ}
 use lib.Dec.{eqb}
 use lib.ListN.{replicate}
-use Rattle.label.specs.Refusals.{firstOf}
+use Rattle.refusals.specs.Refusals.{firstOf}
 use Rattle.protocol.specs.declared.Call.{Call}
 use Rattle.protocol.specs.declared.Call.the-variants.{Read, Write, Join, Clean, Restart, Detach, Attach, PowerOff}
+use Rattle.protocol.specs.declared.State.{State}
 use Rattle.protocol.specs.Geometry.{blockSize}
 use Rattle.protocol.specs.States.{live, source}
 use Rattle.protocol.specs.Stores.{Store, write, copy, mark, clear, propose, commit, made}
@@ -42,13 +43,16 @@ include d k (store ∷ later) = isBlockStore d k store || include d k later
 unfoldable pub counts : CarriedWrite → Bool
 counts w = include (w .source) (w .block) (w .made)
 
+-- the write of block k that is not refused
+abbrev pub carriedWrite : ℕ → List ℕ → ℕ → State → CarriedWrite
+carriedWrite k bytes budget s =
+    record { block = k; bytes = bytes; source = source (live s); made = made budget (writeList s k bytes) }
+
 -- the writes that a call carries out on this cabinet, in order: "The other seven calls leave the book as it is."
 unfoldable pub carriedBy : Call → List ℕ → Cabinet → List CarriedWrite
 carriedBy (Read k) bytes c = []
 carriedBy (Write k budget) bytes c =
-    cond (eqb (firstOf (blockRefusals (c .state) (c .area) k bytes)) 0)
-    (record { block = k; bytes = bytes; source = source (live (c .state)); made = made budget (writeList (c .state) k bytes) } ∷ [])
-    []
+    cond (eqb (firstOf (blockRefusals (c .state) (c .area) k bytes)) 0) (carriedWrite k bytes budget (c .state) ∷ []) []
 carriedBy (Join d budget) bytes c = []
 carriedBy (Clean budget) bytes c = []
 carriedBy (Restart budget) bytes c = []
@@ -72,9 +76,11 @@ replaced k bytes contents j = cond (eqb j k) bytes (contents j)
 -- "then block k of the book becomes its data"
 unfoldable pub afterWrites : List CarriedWrite → Contents → Contents
 afterWrites [] contents = contents
-afterWrites (w ∷ later) contents = afterWrites later (cond (counts w) (replaced (w .block) (w .bytes) contents) contents)
+afterWrites (w ∷ later) contents =
+    afterWrites later (cond (counts w) (replaced (w .block) (w .bytes) contents) contents)
 
--- The book: "Beside it stands a cabinet of this paper", its own, which is given the calls of the list and nothing of the program's.
+-- The book: "Beside it stands a cabinet of this paper", its own, which is given the calls of the list and nothing of
+-- the program's.
 pub record Reference : Type 0 where
   pub cabinet : Cabinet
   pub contents : Contents

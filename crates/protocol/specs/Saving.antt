@@ -1,6 +1,6 @@
 -- Document 01, "Label bytes": the saved form of a cabinet's labels, and assembling a state from it.
 use mathlib.Core.Path.{_≡_}
-use mathlib.Core.Bool.{Bool, cond, not, _&&_}
+use mathlib.Core.Bool.{Bool, cond, not}
 use mathlib.Core.List.{List, [], _∷_, _++_}
 use Prim.Native.Nat.{ℕ, _-_, _*_}
 use lib.Dec.{eqb}
@@ -8,23 +8,23 @@ use lib.ListN.{length, replicate, drop}
 use Rattle.sets.specs.Sets.{below}
 use Rattle.label.specs.declared.Label.{Label}
 use Rattle.label.specs.declared.Reading.{Reading}
-use Rattle.label.specs.Form.{narrow}
 use Rattle.label.specs.Bytes.{encode, longestLabel}
-use Rattle.label.specs.Refusals.{firstOf, outside}
+use Rattle.refusals.specs.Refusals.{firstOf}
 use Rattle.label.specs.Reading.{reading}
 use Rattle.protocol.specs.declared.Power.the-variants.{Stopped}
 use Rattle.protocol.specs.declared.State.{State}
 use Rattle.protocol.specs.declared.Answer.{Answer}
-use Rattle.protocol.specs.Geometry.{mostDisks, regions}
+use Rattle.protocol.specs.Geometry.{labelForm, wrongDiskCount, wrongBlockCount}
 use Rattle.protocol.specs.Loops.{ascending}
-use Rattle.protocol.specs.States.{blank, labelAt}
+use Rattle.protocol.specs.States.{labelAt, filledUp, stateOf, poweredOff, zeroState}
 use Rattle.protocol.specs.Soundness.{Proper}
 use Rattle.protocol.specs.Outcomes.{Outcome, outcome, refusedOr}
-use Rattle.protocol.specs.Calls.{unsound, wrongBlockCount, zeroState, poweredOff}
+use Rattle.protocol.specs.Calls.{unsound}
+use Rattle.protocol.specs.Bays.{bayRefusals}
 
 -- "In the saved form each disk has a slot of 5 bytes": as many as the longest label has
 abbrev pub slotSize : ℕ
-slotSize = longestLabel narrow
+slotSize = longestLabel labelForm
 
 abbrev pub wrongSlots : ℕ → List ℕ → Bool
 wrongSlots n slots = not (eqb (length slots) (slotSize * n))
@@ -33,7 +33,7 @@ wrongSlots n slots = not (eqb (length slots) (slotSize * n))
 
 -- "the rest of the slot zero"
 unfoldable pub slotBytes : ℕ → ℕ → Label → List ℕ
-slotBytes d n l = encode narrow d n l ++ replicate (slotSize - length (encode narrow d n l)) 0
+slotBytes d n l = encode labelForm d n l ++ replicate (slotSize - length (encode labelForm d n l)) 0
 
 -- "Save: 2, the slot buffer is not 5 × n bytes."
 unfoldable pub saveRefusals : State → List ℕ → List (ℕ × Bool)
@@ -49,34 +49,21 @@ saveOutcome s area slots =
 
 -- what the label reader finds in disk d's slot: it is handed the part of the slots that starts there
 unfoldable pub slotReading : List ℕ → ℕ → Reading
-slotReading slots d = reading narrow (drop (slotSize * d) slots)
-
--- "the label's own refusal; 18, its number or n is not this slot's; 22, a dirty bit names no region": of disk d of n with b blocks
-unfoldable pub slotRefusals : ℕ → ℕ → ℕ → Reading → List (ℕ × Bool)
-slotRefusals d n b r =
-    (r .refusal, not (eqb (r .refusal) 0)) ∷
-    (18, not (eqb (r .number) d && eqb (r .disks) n)) ∷
-    (22, not (below (r .label .dirty) (regions b))) ∷
-    []
+slotReading slots d = reading labelForm (drop (slotSize * d) slots)
 
 -- "Assemble: 4. 5. 2, slots not 5 × n bytes. 8, R names a disk from n up. Then for each slot ascending"
 unfoldable pub assembleRefusals : ℕ → ℕ → ℕ → List ℕ → List (ℕ × Bool)
 assembleRefusals n b online slots =
-    (4, outside narrow n) ∷
+    (4, wrongDiskCount n) ∷
     (5, wrongBlockCount b) ∷
     (2, wrongSlots n slots) ∷
     (8, not (below online n)) ∷
-    ascending n (λ d. slotRefusals d n b (slotReading slots d))
+    ascending n (λ d. bayRefusals d n b (slotReading slots d))
 
 -- "Assembling takes n, b, R and n slots, and gives a stopped state"
 unfoldable pub assembled : ℕ → ℕ → ℕ → List ℕ → State
-assembled n b online slots = record {
-  disks = n;
-  blocks = b;
-  labels = ascending n (λ d. (slotReading slots d) .label ∷ []) ++ replicate (mostDisks - n) blank;
-  online = online;
-  power = Stopped;
-}
+assembled n b online slots =
+    stateOf n b (filledUp n (ascending n (λ d. (slotReading slots d) .label ∷ []))) online Stopped
 
 -- It changes no buffer: its slots are only read.
 unfoldable pub assembleAnswer : ℕ → ℕ → ℕ → List ℕ → Answer
@@ -89,4 +76,5 @@ assembleAnswer n b online slots = record {
 -- "from a saved state with its own R it gives the state after a cut": of a sound state and slots that save takes
 abbrev pub SavedAssembles : Type 0
 SavedAssembles = (s : State) (area slots : List ℕ) → Proper s → length slots ≡ slotSize * s .disks
-    → assembleAnswer (s .disks) (s .blocks) (s .online) (saveOutcome s area slots .output) ≡ record { refusal = 0; stores = 0; state = poweredOff s }
+    → assembleAnswer (s .disks) (s .blocks) (s .online) (saveOutcome s area slots .output)
+    ≡ record { refusal = 0; stores = 0; state = poweredOff s }

@@ -4,16 +4,17 @@ use mathlib.Core.Logic.{_⊎_, _↔_}
 use mathlib.Core.Bool.{Bool, true, not, _&&_, _||_}
 use mathlib.Core.List.{List}
 use Prim.Native.Nat.{ℕ, _≤_, _<_}
-use lib.Dec.{eqb, leb, ltb}
+use lib.Dec.{eqb, ltb}
 use lib.ListN.{length}
 use Rattle.sets.specs.Sets.{has, below}
 use Rattle.label.specs.declared.Label.{Label}
+use Rattle.label.specs.Bytes.{blank}
 use Rattle.protocol.specs.declared.Power.{Power}
 use Rattle.protocol.specs.declared.Power.the-variants.{Stopped, Running}
 use Rattle.protocol.specs.declared.State.{State}
-use Rattle.protocol.specs.Geometry.{mostDisks, mostBlocks, regions}
+use Rattle.protocol.specs.Geometry.{mostDisks, wrongDiskCount, mostBlocks, wrongBlockCount, regions}
 use Rattle.protocol.specs.Loops.{allBelow}
-use Rattle.protocol.specs.States.{blank, labelAt}
+use Rattle.protocol.specs.States.{labelAt, committedAt, tentativeAt}
 
 -- ---- part by part
 
@@ -44,7 +45,8 @@ pub record FitLabels (n b : ℕ) (labels : List Label) : Type 0 where
 pub record FitCurrent (n : ℕ) (labels : List Label) (g : ℕ) : Type 0 where
   pub known : below g n ≡ true
   pub filled : 0 < g
-  pub members : (d : ℕ) → d < n → has g d ≡ true → ((labelAt labels d) .committed ≡ g) × ((labelAt labels d) .tentative ≡ 0)
+  pub members : (d : ℕ) → d < n → has g d ≡ true
+      → (committedAt labels d ≡ g) × (tentativeAt labels d ≡ 0)
 
 abbrev pub FitPower : ℕ → List Label → Power → Type 0
 FitPower n labels Stopped = Unit {0}
@@ -60,7 +62,7 @@ pub record Sound (s : State) : Type 0 where
 -- ---- the same as a test
 
 unfoldable pub inRange : ℕ → ℕ → Bool
-inRange n b = leb 1 n && (leb n mostDisks && (leb 1 b && leb b mostBlocks))
+inRange n b = not (wrongDiskCount n) && not (wrongBlockCount b)
 
 unfoldable pub fitSet : ℕ → ℕ → ℕ → Bool
 fitSet n d set = below set n && (eqb set 0 || has set d)
@@ -73,10 +75,11 @@ isBlank l = eqb (l .committed) 0 && (eqb (l .tentative) 0 && eqb (l .dirty) 0)
 
 unfoldable pub fitLabels : ℕ → ℕ → List Label → Bool
 fitLabels n b labels =
-    allBelow n (λ d. fitLabel n b d (labelAt labels d)) && allBelow mostDisks (λ d. ltb d n || isBlank (labelAt labels d))
+    allBelow n (λ d. fitLabel n b d (labelAt labels d))
+    && allBelow mostDisks (λ d. ltb d n || isBlank (labelAt labels d))
 
 unfoldable pub fitMember : List Label → ℕ → ℕ → Bool
-fitMember labels g d = eqb ((labelAt labels d) .committed) g && eqb ((labelAt labels d) .tentative) 0
+fitMember labels g d = eqb (committedAt labels d) g && eqb (tentativeAt labels d) 0
 
 unfoldable pub fitPower : ℕ → List Label → Power → Bool
 fitPower n labels Stopped = true

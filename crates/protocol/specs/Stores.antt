@@ -12,7 +12,8 @@ pub record Disks : Type 0 where
   pub labels : List Label
   pub area : List ℕ
 
--- "One store changes one block, one dirty bit, one tentative set, or one committed set together with its tentative set. Stores do not tear."
+-- "One store changes one block, one dirty bit, one tentative set, or one committed set together with its tentative set.
+-- Stores do not tear."
 pub data Store : Type 0 where
   -- the bytes as block k of disk d
   write : (d k : ℕ) → List ℕ → Store
@@ -46,8 +47,10 @@ onLabel w d l = record { labels = set (w .labels) d l; area = w .area }
 unfoldable pub apply : ℕ → Store → Disks → Disks
 apply b (write d k bytes) w = onArea w (withBlock b (w .area) d k bytes)
 apply b (copy from to k) w = onArea w (withBlock b (w .area) to k (block b (w .area) from k))
-apply b (mark d r) w = onLabel w d (withDirty (labelAt (w .labels) d) (union ((labelAt (w .labels) d) .dirty) (singleton r)))
-apply b (clear d r) w = onLabel w d (withDirty (labelAt (w .labels) d) (difference ((labelAt (w .labels) d) .dirty) (singleton r)))
+apply b (mark d r) w =
+    onLabel w d (withDirty (labelAt (w .labels) d) (union ((labelAt (w .labels) d) .dirty) (singleton r)))
+apply b (clear d r) w =
+    onLabel w d (withDirty (labelAt (w .labels) d) (difference ((labelAt (w .labels) d) .dirty) (singleton r)))
 apply b (propose d s) w = onLabel w d (withTentative (labelAt (w .labels) d) s)
 apply b (commit d s) w = onLabel w d (withCommitted (labelAt (w .labels) d) s)
 

@@ -1,4 +1,11 @@
-// The limits of a cabinet in code; specs/Geometry.antt has them for the definitions. The most disks are sets::DISKS.
+// The limits of a cabinet in code; specs/Geometry.antt has them for the definitions.
+
+// The form of the labels that the cabinet has, saves and assembles: its numbers, its reader and its writer. The most
+// disks are what it allows, and sets::DISKS.
+pub use label::narrow as label_form;
+
+// "In the saved form each disk has a slot of 5 bytes": as many as the longest label of the form has.
+pub const SLOT_SIZE: usize = 5;
 
 // "b blocks a disk (1 to 64)"
 pub const MOST_BLOCKS: usize = 64;

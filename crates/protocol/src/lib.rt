@@ -1,11 +1,10 @@
-// Document 01's cabinet: the types of its state, its calls and their answers. The definitions over them stand in specs/,
-// the theorems in proofs/; no call runs here.
+// Document 01's cabinet: the types of its state, its calls and their answers. The definitions over them stand in
+// specs/, the theorems in proofs/; no call runs here.
 use label::Label;
 use sets::DISKS;
 use sets::Mask;
 
 pub mod geometry;
-pub mod refusal;
 
 // "a power condition: either running with a current set G, or stopped with none"
 pub enum Power {
@@ -30,8 +29,8 @@ pub struct Answer {
     pub state: State,
 }
 
-// The calls of document 01's list, "The list and the book". Numbers are wider than the state's own, so that 256 is no disk 0;
-// the budget is the paper's supply, 0 to 65,535. A write's data and a read's output are lent beside the call.
+// The calls of document 01's list, "The list and the book". Numbers are wider than the state's own, so that 256 is no
+// disk 0; the budget is the paper's supply, 0 to 65,535. A write's data and a read's output are lent beside the call.
 pub enum Call {
     Read { block: usize },
     Write { block: usize, budget: u16 },

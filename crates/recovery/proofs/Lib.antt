@@ -1,4 +1,4 @@
--- The laws of clean and restart.
+-- The laws of a restart.
 pub mod RegionBlocks
 pub mod RestartList
 pub mod SoundFirst

@@ -11,13 +11,15 @@ use Rattle.protocol.specs.Geometry.{regionSize}
 use Rattle.protocol.specs.Loops.{ascending}
 use Rattle.protocol.specs.Stores.{Store}
 use Rattle.protocol.specs.Lists.{forBlocks}
-use Rattle.protocol.proofs.Loops.{same-turns, until}
-use Rattle.recovery.specs.Regions.{regionBlocks}
+use Rattle.protocol.proofs.Loops.{same-iterations, until}
+use Rattle.recovery.specs.Copying.{regionBlocks}
 
-pub region-loop : (b r : ℕ) (f : ℕ → List Store) → forBlocks b r f ≡ ascending (regionBlocks b r) (λ i. f (r * regionSize + i))
+pub region-loop : (b r : ℕ) (f : ℕ → List Store)
+    → forBlocks b r f ≡ ascending (regionBlocks b r) (λ i. f (r * regionSize + i))
 unfolding forBlocks regionBlocks
 region-loop b r f =
-    same-turns regionSize _ _ (λ i l. ap (λ t. cond t (f (first + i)) []) (counted-from-it i)) ∙ until regionSize (b - first) (λ i. f (first + i))
+    same-iterations regionSize _ _ (λ i l. ap (λ t. cond t (f (first + i)) []) (counted-from-it i))
+    ∙ until regionSize (b - first) (λ i. f (first + i))
   where
     first : ℕ
     first = r * regionSize
@@ -33,7 +35,8 @@ pub region-inside : (b r : ℕ) → r * regionSize ≤ b → r * regionSize + re
 unfolding regionBlocks
 region-inside b r begins = go (test (ltb (b - r * regionSize) regionSize))
   where
-    go : Test (ltb (b - r * regionSize) regionSize) → r * regionSize + cond (ltb (b - r * regionSize) regionSize) (b - r * regionSize) regionSize ≤ b
+    go : Test (ltb (b - r * regionSize) regionSize)
+        → r * regionSize + cond (ltb (b - r * regionSize) regionSize) (b - r * regionSize) regionSize ≤ b
     go (passes e) = rw e (omega arith)
     go (fails e) = rw e (omega (arith, ltb-false (b - r * regionSize) regionSize e))
 
@@ -41,6 +44,7 @@ pub region-short : (b r : ℕ) → regionBlocks b r ≤ regionSize
 unfolding regionBlocks
 region-short b r = go (test (ltb (b - r * regionSize) regionSize))
   where
-    go : Test (ltb (b - r * regionSize) regionSize) → cond (ltb (b - r * regionSize) regionSize) (b - r * regionSize) regionSize ≤ regionSize
+    go : Test (ltb (b - r * regionSize) regionSize)
+        → cond (ltb (b - r * regionSize) regionSize) (b - r * regionSize) regionSize ≤ regionSize
     go (passes e) = rw e (omega (arith, ltb-true (b - r * regionSize) regionSize e))
     go (fails e) = rw e (omega arith)

@@ -4,11 +4,11 @@ use mathlib.Core.Bool.{true}
 use mathlib.Core.List.{List}
 use Prim.Native.Nat.{ℕ}
 use Rattle.sets.proofs.Tests.{Test, passes, fails, test}
-use Rattle.label.specs.Refusals.{firstOf}
+use Rattle.refusals.specs.Refusals.{firstOf}
 use Rattle.protocol.specs.declared.State.{State}
 use Rattle.protocol.specs.Soundness.{sound}
-use Rattle.protocol.specs.Naming.{Found}
-use Rattle.protocol.specs.Calls.{foundBy, refusalsFinding, restartRefusals}
+use Rattle.protocol.specs.Naming.{Found, foundBy}
+use Rattle.protocol.specs.Calls.{refusalsFinding, restartRefusals}
 
 pub sound-first : (s : State) (area : List ℕ) (found : Found) → (sound s ≡ true → found ≡ foundBy s)
     → firstOf (refusalsFinding s area found) ≡ firstOf (restartRefusals s area)

@@ -1,2 +1,2 @@
-pub mod Regions
-pub mod Turns
+pub mod Copying
+pub mod RegionLists

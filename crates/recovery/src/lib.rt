@@ -1,10 +1,8 @@
-// What dirty maps are for: clean, the paper's quiet, which clears them while the cabinet runs, and restart, which copies what is dirty.
-// Each is for any state, buffers and numbers.
-mod cleaning;
-mod mending;
-mod refusals;
-mod regions;
+// Restart, for any state, buffers and numbers: the set that the labels name runs again, once what
+// is dirty on it is copied.
+mod checks;
+mod copying;
 mod restarting;
+mod resyncing;
 
-pub use cleaning::clean;
 pub use restarting::restart;

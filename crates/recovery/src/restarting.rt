@@ -6,36 +6,38 @@ ghost use Prim.Native.Nat.{ℕ, _+_, _<_};
 ghost use Rattle.sets.specs.Sets.{below};
 ghost use Rattle.protocol.specs.Soundness.{sound};
 ghost use Rattle.protocol.specs.Lists.{restartList};
-ghost use Rattle.protocol.specs.Outcomes.{carryOut};
-ghost use Rattle.protocol.specs.Calls.{theSet, foundBy, restartOutcome};
+ghost use Rattle.protocol.specs.Outcomes.{yields, runsWith, carryOut};
+ghost use Rattle.protocol.specs.Naming.{foundBy};
+ghost use Rattle.protocol.specs.Calls.{restartOutcome};
 ghost use Rattle.naming.specs.Meaning.{foundOf};
-ghost use Rattle.tally.specs.Ready.{Ready};
-use crate::mending::mend_all;
-use crate::mending::mends_length;
-use crate::refusals::restart_refusal;
+ghost use Rattle.stores.specs.Sizes.{SoundCabinet};
+use crate::checks::restart_refusal;
+use crate::resyncing::resync_all;
+use crate::resyncing::resyncs_length;
 use naming::Naming;
+use naming::the_set;
 use protocol::Answer;
 use protocol::State;
 use sets::Mask;
-use soundness::sound;
+use state::dirty_regions;
+use state::sound;
 use state::without_stores;
 use stores::Change;
-use tally::count;
-use tally::dirty_regions;
-use tally::ended;
-use tally::size_of;
-use tally::started;
+use stores::ended;
+use stores::size_of;
+use stores::started;
 
 // "At the end store C = S and T = 0 on every member, ascending. Then run with G = S."
 fn restart_stores(s: State, area: &mut [u8], set: Mask, budget: u16) -> Answer
-    requires { ⌜ Ready s (now area) × (0 < set) × (below set (s .disks) ≡ true) ⌝ }
-    ensures { λ r. ⌜ ((output : List ℕ) → record { answer = r; area = now (area .exit); output = output } ≡ carryOut (restartList s set) budget set s (now (area .entry)) output) ⌝ }
+    requires { ⌜ SoundCabinet s (now area) × (0 < set) × (below set (s .disks) ≡ true) ⌝ }
+    ensures { λ r. ⌜ ((output : List ℕ) → yields r (now (area .exit)) output
+        ≡ carryOut (restartList s set) budget s (now (area .entry)) output (runsWith set s output)) ⌝ }
 {
     let labels = s.labels;
     let size = size_of(s);
     let dirty = dirty_regions(labels, set);
-    let stores = mends_length(dirty, size, set) + count(set);
-    let run = mend_all(started(s, budget), area, dirty, size, set);
+    let stores = resyncs_length(dirty, size, set) + sets::size(set);
+    let run = resync_all(started(s, budget), area, dirty, size, set);
     let run = stores::store_labels(run, size.disks, set, Change::Commit(set));
     ended(s, run, stores, set, budget)
 }
@@ -53,19 +55,10 @@ fn found_by(is_sound: bool, s: State) -> Naming
     }
 }
 
-fn the_set(found: Naming) -> Mask
-    ensures { λ r. ⌜ r ≡ theSet (foundOf found) ⌝ }
-{
-    match found {
-        Naming::Nothing => 0,
-        Naming::One(x) => x,
-        Naming::Several => 0,
-    }
-}
-
 // Given no output, it leaves any.
 pub fn restart(s: State, area: &mut [u8], budget: u16) -> Answer
-    ensures { λ r. ⌜ ((output : List ℕ) → record { answer = r; area = now (area .exit); output = output } ≡ restartOutcome s (now (area .entry)) output budget) ⌝ }
+    ensures { λ r. ⌜ ((output : List ℕ) → yields r (now (area .exit)) output
+        ≡ restartOutcome s (now (area .entry)) output budget) ⌝ }
 {
     let is_sound = sound(s);
     let found = found_by(is_sound, s);

@@ -15,8 +15,8 @@ replyMost = 5 * fieldMost
 unfoldable pub field : ℕ → ℕ → List ℕ
 field n end = numeral n ++ (end ∷ [])
 
--- "one line of five decimal numbers, one space between: result, stores made, G (0 if stopped), R, and the first byte read (0 unless a read was done)"
--- 32 is a space, 10 the line feed.
+-- "one line of five decimal numbers, one space between: result, stores made, G (0 if stopped), R, and the first byte
+-- read (0 unless a read was done)" 32 is a space, 10 the line feed.
 unfoldable pub replyLine : Reply → List ℕ
 replyLine r =
     field (r .result) 32 ++

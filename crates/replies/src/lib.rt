@@ -1,7 +1,7 @@
 // The line that answers a line of the cabinet program.
 ghost use Prim.Native.Nat.{_+_, _≤_};
 ghost use lib.ListN.{length};
-ghost use Rattle.label.specs.Writing.{Stored};
+ghost use Rattle.buffers.specs.Buffers.{Stored};
 ghost use Rattle.replies.specs.Replies.{fieldMost, replyMost, field, replyLine};
 use sets::Mask;
 
@@ -36,7 +36,7 @@ pub fn put_reply(out: &mut [u8], at: usize, reply: Reply) -> usize
 {
     let stores = put_field(out, at, reply.result as u16, b' ');
     let current = put_field(out, stores, reply.stores, b' ');
-    let online = put_field(out, current, reply.current as u16, b' ');
-    let byte = put_field(out, online, reply.online as u16, b' ');
+    let online = put_field(out, current, sets::number(reply.current), b' ');
+    let byte = put_field(out, online, sets::number(reply.online), b' ');
     put_field(out, byte, reply.byte as u16, b'\n')
 }

@@ -39,7 +39,10 @@ member-below s n d h e = go (decLt d n)
     go (no g) = clash e (has-above s n d h (omega arith))
 
 pub below-members : (s n : ℕ) → (below s n ≡ true) ↔ ((d : ℕ) → has s d ≡ true → d < n)
-below-members s n = (λ e d. member-below s n d (below-pow s n .0 e), λ f. below-pow s n .1 (shifted-out s n .0 (same-members _ 0 (none f))))
+below-members s n = (
+  λ e d. member-below s n d (below-pow s n .0 e),
+  λ f. below-pow s n .1 (shifted-out s n .0 (same-members _ 0 (none f))),
+)
   where
     none : ((d : ℕ) → has s d ≡ true → d < n) → (d : ℕ) → has (s / 2 ^ n) d ≡ has 0 d
     none f d = go (test (has s (n + d)))
@@ -57,10 +60,12 @@ pub below-inside : (a b n : ℕ) → ((d : ℕ) → has a d ≡ true → has b d
 below-inside a b n inside h = below-members a n .1 (λ d m. below-members b n .0 h d (inside d m))
 
 pub below-intersection : (a b n : ℕ) → below b n ≡ true → below (intersection a b) n ≡ true
-below-intersection a b n = below-inside (intersection a b) b n (λ d m. and-parts (has a d) (has b d) (sym (has-intersection a b d) ∙ m) .1)
+below-intersection a b n =
+    below-inside (intersection a b) b n (λ d m. and-parts (has a d) (has b d) (sym (has-intersection a b d) ∙ m) .1)
 
 pub below-difference : (a b n : ℕ) → below a n ≡ true → below (difference a b) n ≡ true
-below-difference a b n = below-inside (difference a b) a n (λ d m. and-parts (has a d) (not (has b d)) (sym (has-difference a b d) ∙ m) .0)
+below-difference a b n =
+    below-inside (difference a b) a n (λ d m. and-parts (has a d) (not (has b d)) (sym (has-difference a b d) ∙ m) .0)
 
 -- a union does where both its parts do, and only there
 pub below-union : (a b n : ℕ) → (below (union a b) n ≡ true) ↔ ((below a n ≡ true) × (below b n ≡ true))
@@ -78,7 +83,9 @@ below-union a b n = (
 
 -- with one more disk below n
 pub below-with : (a d n : ℕ) → below a n ≡ true → d < n → below (union a (singleton d)) n ≡ true
-below-with a d n h l = below-members (union a (singleton d)) n .1 (λ e m. go e (or-either (has a e) (eqb e d) (sym (has-union a (singleton d) e ∙ rw (has-singleton d e)) ∙ m)))
+below-with a d n h l =
+    below-members (union a (singleton d)) n .1
+    (λ e m. go e (or-either (has a e) (eqb e d) (sym (has-union a (singleton d) e ∙ rw (has-singleton d e)) ∙ m)))
   where
     go : (e : ℕ) → (has a e ≡ true) ⊎ (eqb e d ≡ true) → e < n
     go e (inl m) = below-members a n .0 h e m

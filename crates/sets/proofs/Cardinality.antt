@@ -39,7 +39,8 @@ size-members k s h = ap ones (sym (mod-eq-of-lt h)) ∙ size-low k s
 members-most : (k s : ℕ) → length (members k s) ≤ k
 unfolding members
 members-most zero s = omega arith
-members-most (suc k) s = omega (arith, length-append (members k s) (cond (has s k) (k ∷ []) []), one (has s k), members-most k s)
+members-most (suc k) s =
+    omega (arith, length-append (members k s) (cond (has s k) (k ∷ []) []), one (has s k), members-most k s)
   where
     one : (t : Bool) → length (cond t (k ∷ []) []) ≤ 1
     one true = omega arith

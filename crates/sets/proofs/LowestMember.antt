@@ -23,7 +23,8 @@ unfolding trailingZeros
 trailing-has zero s h p = absurd (omega (arith, lt-one h))
 trailing-has (suc k) s h p = go (s % 2) refl (trailing-has k (s / 2) (shr-lt k 1 (rw add-one h)))
   where
-    go : (r : ℕ) → s % 2 ≡ r → (0 < s / 2 → has (s / 2) (trailingZeros k (s / 2)) ≡ true) → has s (under r (trailingZeros k (s / 2))) ≡ true
+    go : (r : ℕ) → s % 2 ≡ r → (0 < s / 2 → has (s / 2) (trailingZeros k (s / 2)) ≡ true)
+        → has s (under r (trailingZeros k (s / 2))) ≡ true
     go zero e ih = has-half s (trailingZeros k (s / 2)) ∙ ih (omega arith)
     go (suc r) e ih = has-lowest-bit s ∙ eq-eqb (s % 2) 1 (omega arith)
 
@@ -32,7 +33,8 @@ unfolding trailingZeros
 trailing-least zero s d h = absurd (omega arith)
 trailing-least (suc k) s d h = go (s % 2) refl d h (trailing-least k (s / 2))
   where
-    go : (r : ℕ) → s % 2 ≡ r → (d : ℕ) → d < under r (trailingZeros k (s / 2)) → ((e : ℕ) → e < trailingZeros k (s / 2) → has (s / 2) e ≡ false) → has s d ≡ false
+    go : (r : ℕ) → s % 2 ≡ r → (d : ℕ) → d < under r (trailingZeros k (s / 2))
+        → ((e : ℕ) → e < trailingZeros k (s / 2) → has (s / 2) e ≡ false) → has s d ≡ false
     go zero e zero l ih = has-lowest-bit s ∙ rw e
     go zero e (suc d) l ih = has-half s d ∙ ih d (omega arith)
     go (suc r) e d l ih = absurd (omega arith)
@@ -57,7 +59,7 @@ non-empty zero d h = clash h (has-empty d)
 non-empty (suc s) d h = omega arith
 
 -- a member with none below it is the lowest
-pub lowest-is : (s i : ℕ) → has s i ≡ true → ((d : ℕ) → d < i → has s d ≡ false) → lowest s ≡ i
+lowest-is : (s i : ℕ) → has s i ≡ true → ((d : ℕ) → d < i → has s d ≡ false) → lowest s ≡ i
 lowest-is s i h f = go (decLt (lowest s) i) (decLt i (lowest s))
   where
     go : Dec (lowest s < i) → Dec (i < lowest s) → lowest s ≡ i

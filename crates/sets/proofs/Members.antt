@@ -2,7 +2,8 @@
 use mathlib.Core.Path.{_≡_, refl}
 use mathlib.Core.Logic.{_↔_, _⊎_, inl, inr}
 use mathlib.Core.Bool.{Bool, true, false, cond}
-use mathlib.Core.List.{List, [], _∷_, _++_, append-nil, List·Memᴰ, List·Memᴰ·not-nil, List·Memᴰ·append-cases, List·Memᴰ·eq-of-singleton, Memᴰ·append-left, Memᴰ·append-right, List·Memᴰ·head}
+use mathlib.Core.List.{List, [], _∷_, _++_, append-nil, List·Memᴰ, List·Memᴰ·not-nil, List·Memᴰ·append-cases}
+use mathlib.Core.List.{List·Memᴰ·eq-of-singleton, Memᴰ·append-left, Memᴰ·append-right, List·Memᴰ·head}
 use Prim.Native.Nat.{ℕ, zero, suc, _<_}
 use native.Mathlib.Omega.{arith}
 use native.Mathlib.Decide.{decLt}
@@ -28,7 +29,8 @@ unfolding members
 lists zero s d l h = absurd (omega arith)
 lists (suc k) s d l h = go (decLt d k) (lists k s d)
   where
-    go : Dec (d < k) → (d < k → has s d ≡ true → List·Memᴰ d (members k s)) → List·Memᴰ d (members k s ++ cond (has s k) (k ∷ []) [])
+    go : Dec (d < k) → (d < k → has s d ≡ true → List·Memᴰ d (members k s))
+        → List·Memᴰ d (members k s ++ cond (has s k) (k ∷ []) [])
     go (yes p) ih = Memᴰ·append-left (cond (has s k) (k ∷ []) []) (ih p h)
     go (no q) ih =
         let e : d ≡ k = omega arith in
@@ -44,7 +46,8 @@ data Place (xs : List ℕ) (x i element : ℕ) : Type 0 where
   inside : i < length xs → element ≡ getD xs i 0 → Place xs x i element
   last : i ≡ length xs → element ≡ x → Place xs x i element
 
-place : (xs : List ℕ) (more : Bool) (x i : ℕ) → i < length (xs ++ cond more (x ∷ []) []) → Place xs x i (getD (xs ++ cond more (x ∷ []) []) i 0)
+place : (xs : List ℕ) (more : Bool) (x i : ℕ) → i < length (xs ++ cond more (x ∷ []) [])
+    → Place xs x i (getD (xs ++ cond more (x ∷ []) []) i 0)
 place xs false x i h = inside (rw append-nil at h) (rw append-nil)
 place xs true x i h = go (decLt i (length xs))
   where
@@ -67,7 +70,8 @@ pub members-ascend : (k s i j : ℕ) → i < j → j < length (members k s) → 
 unfolding members
 members-ascend zero s i j l h = absurd (omega arith)
 members-ascend (suc k) s i j l h =
-    go (place (members k s) (has s k) k i (omega arith)) (place (members k s) (has s k) k j h) (members-ascend k s i j l)
+    go (place (members k s) (has s k) k i (omega arith)) (place (members k s) (has s k) k j h)
+    (members-ascend k s i j l)
   where
     go : {v w : ℕ} → Place (members k s) k i v → Place (members k s) k j w
         → (j < length (members k s) → getD (members k s) i 0 < getD (members k s) j 0) → v < w

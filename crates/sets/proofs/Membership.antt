@@ -4,7 +4,6 @@ use mathlib.Core.Bool.{false, false≢true}
 use Prim.Native.Nat.{ℕ, zero, suc, _+_, _*_, _/_, _%_, _^_, _≤_, _<_}
 use native.Mathlib.Nat.{mod-lt, div-one, zero-div, div-add-mod', div-eq-of-lt, lt-of-lt-of-le}
 use native.Mathlib.Numerals.{one-add}
-use native.Mathlib.Decide.{decLt}
 use native.Mathlib.Omega.{arith}
 use lib.Dec.{eqb, lit<}
 use lib.Arith.{bin-ind}
@@ -46,7 +45,8 @@ halves : (a b : ℕ) → a / 2 ≡ b / 2 → has a 0 ≡ has b 0 → a ≡ b
 halves a b p q =
     sym (div-add-mod' a 2)
     ∙ ap₂ (λ (x y : ℕ). x * 2 + y) p
-    (digit-same (a % 2) (b % 2) (mod-lt a (lit< tt)) (mod-lt b (lit< tt)) (sym (has-lowest-bit a) ∙ q ∙ has-lowest-bit b))
+    (digit-same (a % 2) (b % 2) (mod-lt a (lit< tt)) (mod-lt b (lit< tt))
+    (sym (has-lowest-bit a) ∙ q ∙ has-lowest-bit b))
     ∙ div-add-mod' b 2
 
 no-member : (s : ℕ) → ((d : ℕ) → has s d ≡ false) → s ≡ 0
@@ -60,11 +60,3 @@ same-members =
     bin-ind (λ a. (b : ℕ) → ((d : ℕ) → has a d ≡ has b d) → a ≡ b)
     (λ b h. sym (no-member b (λ d. sym (h d) ∙ has-empty d)))
     (λ a ih b h. halves a b (ih (b / 2) (λ d. sym (has-half a d) ∙ h (suc d) ∙ has-half b d)) (h 0))
-
--- two sets below 2 ^ k are equal if they have the same members below k
-pub same-members-below : (k a b : ℕ) → a < 2 ^ k → b < 2 ^ k → ((d : ℕ) → d < k → has a d ≡ has b d) → a ≡ b
-same-members-below k a b ha hb h = same-members a b (λ d. go d (decLt d k))
-  where
-    go : (d : ℕ) → Dec (d < k) → has a d ≡ has b d
-    go d (yes l) = h d l
-    go d (no g) = has-above a k d ha (omega arith) ∙ sym (has-above b k d hb (omega arith))

@@ -10,6 +10,8 @@ use native.Mathlib.Omega.{arith}
 use lib.Dec.{eqb, ltb, eqb·suc-zero, eqb·zero-suc, eqb·suc-suc, leb·suc-suc, leb·suc-zero, leb·zero, lit<}
 use lib.Pow.{pow-pos, shr-lt}
 use lib.Bits.{bitAnd, bitOr, and-step, or-step, and-le-l}
+use mir.Syntax.{Width}
+use mir.Val.{Fits, bits}
 use borrow.Author.Tests.{eqb-true, eq-eqb}
 use Rattle.sets.specs.Sets.{has, subset, union, intersection, difference, singleton, all}
 use Rattle.sets.proofs.Tests.{and-parts}
@@ -19,7 +21,8 @@ use Rattle.sets.proofs.Membership.{has-empty, has-lowest-bit, has-half,
 
 -- g does to binary digits what f does to truth values, as its four cases show
 on-digits : (g : ℕ → ℕ → ℕ) (f : Bool → Bool → Bool)
-    → eqb (g 0 0) 1 ≡ f false false → eqb (g 0 1) 1 ≡ f false true → eqb (g 1 0) 1 ≡ f true false → eqb (g 1 1) 1 ≡ f true true
+    → eqb (g 0 0) 1 ≡ f false false → eqb (g 0 1) 1 ≡ f false true → eqb (g 1 0) 1 ≡ f true false
+    → eqb (g 1 1) 1 ≡ f true true
     → (p q : ℕ) → p < 2 → q < 2 → eqb (g p q) 1 ≡ f (eqb p 1) (eqb q 1)
 on-digits g f e00 e01 e10 e11 zero zero hp hq = e00
 on-digits g f e00 e01 e10 e11 zero (suc zero) hp hq = e01
@@ -36,19 +39,22 @@ bitwise : (op g : ℕ → ℕ → ℕ) (f : Bool → Bool → Bool)
     → (a b d : ℕ) → has (op a b) d ≡ f (has a d) (has b d)
 bitwise op g f digits half low a b zero =
     has-lowest-bit (op a b)
-    ∙ rw (low a b, has-lowest-bit a, has-lowest-bit b) (digits (a % 2) (b % 2) (mod-lt a (lit< tt)) (mod-lt b (lit< tt)))
+    ∙ rw (low a b, has-lowest-bit a, has-lowest-bit b)
+    (digits (a % 2) (b % 2) (mod-lt a (lit< tt)) (mod-lt b (lit< tt)))
 bitwise op g f digits half low a b (suc d) =
     has-half (op a b) d ∙ rw (half a b, has-half a d, has-half b d) (bitwise op g f digits half low (a / 2) (b / 2) d)
 
 pub has-union : (a b d : ℕ) → has (union a b) d ≡ (has a d || has b d)
 unfolding union
 has-union =
-    bitwise bitOr max _||_ (on-digits max _||_ refl refl refl refl) (λ a b. omega (arith, or-step a b)) (λ a b. omega (arith, or-step a b))
+    bitwise bitOr max _||_ (on-digits max _||_ refl refl refl refl) (λ a b. omega (arith, or-step a b))
+    (λ a b. omega (arith, or-step a b))
 
 pub has-intersection : (a b d : ℕ) → has (intersection a b) d ≡ (has a d && has b d)
 unfolding intersection
 has-intersection =
-    bitwise bitAnd min _&&_ (on-digits min _&&_ refl refl refl refl) (λ a b. omega (arith, and-step a b)) (λ a b. omega (arith, and-step a b))
+    bitwise bitAnd min _&&_ (on-digits min _&&_ refl refl refl refl) (λ a b. omega (arith, and-step a b))
+    (λ a b. omega (arith, and-step a b))
 
 pub has-difference : (a b d : ℕ) → has (difference a b) d ≡ (has a d && not (has b d))
 unfolding difference intersection
@@ -66,7 +72,7 @@ complement-low : (p x : ℕ) → x < p * 2 → (p * 2 - 1 - x) % 2 ≡ 1 - x % 2
 complement-low p x h = omega arith
 
 -- the code's way, a mask with the complement, at any width
-pub and-complement : (k a b : ℕ) → a < 2 ^ k → b < 2 ^ k → bitAnd a (2 ^ k - 1 - b) ≡ difference a b
+and-complement : (k a b : ℕ) → a < 2 ^ k → b < 2 ^ k → bitAnd a (2 ^ k - 1 - b) ≡ difference a b
 unfolding difference intersection
 and-complement zero a b ha hb = rw (lt-one ha)
 and-complement (suc k) a b ha hb =
@@ -79,6 +85,10 @@ and-complement (suc k) a b ha hb =
       and-complement k (a / 2) (b / 2) (shr-lt k 1 (rw add-one ha)) (shr-lt k 1 (rw add-one hb)),
     )
     (omega (arith, and-step a b, and-le-l (a / 2) (b / 2)))
+
+-- the same of a mask of code, whatever its width
+pub mask-complement : {w : Width} {a b : ℕ} → Fits w a → b < 2 ^ bits w → bitAnd a (2 ^ bits w - 1 - b) ≡ difference a b
+mask-complement {w} fa hb = and-complement (bits w) _ _ (fa .fits) hb
 
 -- ---- a set of one disk, and of the disks below n
 
@@ -105,7 +115,8 @@ has-all (suc n) (suc d) =
 pub subset-members : (a b : ℕ) → (subset a b ≡ true) ↔ ((d : ℕ) → has a d ≡ true → has b d ≡ true)
 unfolding subset
 subset-members a b = (
-  λ e d h. and-parts (has a d) (has b d) (sym (has-intersection a b d) ∙ ap (λ (s : ℕ). has s d) (eqb-true _ _ e) ∙ h) .1,
+  λ e d h. and-parts (has a d) (has b d)
+      (sym (has-intersection a b d) ∙ ap (λ (s : ℕ). has s d) (eqb-true _ _ e) ∙ h) .1,
   λ f. eq-eqb _ _ (same-members (intersection a b) a (λ d. has-intersection a b d ∙ common (has a d) (has b d) (f d))),
 )
   where

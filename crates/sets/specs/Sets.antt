@@ -1,4 +1,5 @@
--- Sets of disks as numbers. Document 01: "A set of disks is one byte, bit d for disk d." Nothing here depends on how many bits a set has.
+-- Sets of disks as numbers. Document 01: "A set of disks is one byte, bit d for disk d." Nothing here depends
+-- on how many bits a set has.
 use mathlib.Core.Bool.{Bool, cond}
 use mathlib.Core.List.{List, [], _∷_, _++_}
 use Prim.Native.Nat.{ℕ, zero, suc, _-_, _/_, _%_, _^_}
@@ -39,8 +40,8 @@ below s n = ltb s (2 ^ n)
 unfoldable pub size : ℕ → ℕ
 size s = ones s
 
--- "The lowest member is the one with the smallest number": as many as there are zeros below the lowest bit that stands. 0 for the empty set,
--- which has none. A number has no more digits than its value, so s of them are enough to look at.
+-- "The lowest member is the one with the smallest number": as many as there are zeros below the lowest bit that stands.
+-- 0 for the empty set, which has none. A number has no more digits than its value, so s of them are enough to look at.
 unfoldable pub lowest : ℕ → ℕ
 lowest s = trailingZeros s s
 

@@ -3,8 +3,9 @@
 // A set's width stands here, in Mask and DISKS and in the two counts that name the integer type. No definition, law or
 // proof names it.
 ghost use mathlib.Core.Path.{_≡_};
-ghost use Prim.Native.Nat.{_<_, _≤_};
-ghost use Rattle.sets.specs.Sets.{has, union, intersection, difference, subset, singleton, all, below, size, lowest};
+ghost use Prim.Native.Nat.{_^_, _<_, _≤_};
+ghost use Rattle.sets.specs.Sets.{has, union, intersection, difference, subset};
+ghost use Rattle.sets.specs.Sets.{singleton, all, below, size, lowest};
 
 pub type Mask = u8;
 
@@ -66,6 +67,22 @@ pub fn below(s: Mask, n: usize) -> bool
     if n < DISKS { s >> n == 0 } else { true }
 }
 
+// The set that a number stands for, bit d for disk d. One that a mask cannot hold stands for none,
+// so the bound must be asked.
+pub fn from_number(v: u16) -> Mask
+    requires { do ⌜ v < 2 ^ (← ⟦DISKS⟧) ⌝ }
+    ensures { λ r. ⌜ r ≡ v ⌝ }
+{
+    v as Mask
+}
+
+// The number that a set is, wide enough for every width that a set may have.
+pub fn number(s: Mask) -> u16
+    ensures { λ r. ⌜ r ≡ s ⌝ }
+{
+    s as u16
+}
+
 // A function of its own, so that no count has to be proved to fit.
 fn wide(x: u32) -> usize
     ensures { λ r. ⌜ r ≡ x ⌝ }
@@ -73,8 +90,9 @@ fn wide(x: u32) -> usize
     x as usize
 }
 
+// No more than DISKS, so that sums of sizes are seen to fit.
 pub fn size(s: Mask) -> usize
-    ensures { λ r. ⌜ r ≡ size s ⌝ }
+    ensures { λ r. do ⌜ (r ≡ size s) × (r ≤ (← ⟦DISKS⟧ .entry)) ⌝ }
 {
     wide(u8::count_ones(s))
 }

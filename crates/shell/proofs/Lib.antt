@@ -1,3 +1,3 @@
 pub mod Blocks
-pub mod Held
+pub mod Buffering
 pub mod Transcript

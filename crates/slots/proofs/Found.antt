@@ -1,7 +1,7 @@
 -- What slots are found to hold, one after the other. Assumes nothing.
 use mathlib.Core.Path.{_≡_, refl, sym, _∙_}
 use mathlib.Core.Logic.{_≢_}
-use mathlib.Core.Bool.{not, cond}
+use mathlib.Core.Bool.{Bool, cond}
 use mathlib.Core.List.{List, [], _∷_}
 use Prim.Native.Nat.{ℕ, suc, _+_, _-_, _*_, _≤_, _<_}
 use native.Mathlib.Nat.{le-refl}
@@ -15,46 +15,53 @@ use borrow.Rule.Slice.PartMut.{midOf}
 use Rattle.sets.proofs.Tests.{or-parts}
 use Rattle.label.specs.declared.Label.{Label}
 use Rattle.label.specs.declared.Reading.{Reading}
-use Rattle.label.specs.Form.{narrow}
-use Rattle.label.specs.Refusals.{firstOf, orElse}
+use Rattle.refusals.specs.Refusals.{firstOf}
 use Rattle.label.specs.Reading.{reading}
-use Rattle.label.proofs.Order.{none-at}
+use Rattle.refusals.proofs.Order.{none-at}
 use Rattle.label.proofs.Accepting.{in-range}
 use Rattle.protocol.specs.declared.Power.the-variants.{Stopped}
 use Rattle.protocol.specs.declared.State.{State}
 use Rattle.protocol.specs.declared.Answer.{Answer}
-use Rattle.protocol.specs.Geometry.{mostDisks, mostBlocks}
+use Rattle.protocol.specs.Geometry.{labelForm, mostDisks, mostBlocks}
 use Rattle.protocol.specs.Loops.{ascending}
-use Rattle.protocol.specs.States.{blank}
-use Rattle.protocol.specs.Calls.{zeroState}
-use Rattle.protocol.specs.Saving.{slotSize, slotReading, slotRefusals, assembleRefusals, assembled, assembleAnswer}
+use Rattle.label.specs.Bytes.{blank}
+use Rattle.protocol.specs.States.{stateOf, zeroState}
+use Rattle.protocol.specs.Saving.{slotSize, slotReading, assembleRefusals, assembled, assembleAnswer}
+use Rattle.protocol.specs.Bays.{bayRefusals}
 use Rattle.protocol.proofs.Loops.{nil, cons, each-ascending}
-use Rattle.protocol.proofs.Turns.{listed-length}
+use Rattle.protocol.proofs.Iterations.{listed-length}
 use Rattle.protocol.proofs.Assembling.{slot-numbered}
 use Rattle.slots.specs.Below.{refusalsBelow, labelsBelow}
-use Rattle.slots.proofs.Refusing.{in-a-row, or-next}
+use Rattle.slots.proofs.Refusing.{in-a-row}
 
 -- ---- one slot more
 
 -- the reader is handed what lies from a disk's slot on
-pub slot-read : (slots : List ℕ) (d : ℕ) {r : Reading} → r ≡ reading narrow (midOf (slotSize * d) (length slots - slotSize * d) slots) → r ≡ slotReading slots d
+pub slot-read : (slots : List ℕ) (d : ℕ) {r : Reading}
+    → r ≡ reading labelForm (midOf (slotSize * d) (length slots - slotSize * d) slots) → r ≡ slotReading slots d
 unfolding slotReading
-slot-read slots d e = e ∙ rw (take-all (length slots - slotSize * d) (drop (slotSize * d) slots) (simp length-drop (le-refl _)))
+slot-read slots d e =
+    e ∙ rw (take-all (length slots - slotSize * d) (drop (slotSize * d) slots) (simp length-drop (le-refl _)))
 
 module _ (d n b : ℕ) (slots : List ℕ) {r : Reading} (found : r ≡ slotReading slots d) where
-  pub refusal-turn : {refusal own next : ℕ} → refusal ≡ firstOf (refusalsBelow d n b slots) → own ≡ firstOf (slotRefusals d n b r)
-      → next ≡ orElse refusal (not (eqb own 0)) own → next ≡ firstOf (refusalsBelow (d + 1) n b slots)
+  pub refusal-next : {refusal own next : ℕ} → refusal ≡ firstOf (refusalsBelow d n b slots)
+      → own ≡ firstOf (bayRefusals d n b r)
+      → next ≡ cond (eqb refusal 0) own refusal → next ≡ firstOf (refusalsBelow (d + 1) n b slots)
   unfolding ascending
-  refusal-turn before own next =
-      next ∙ rw (or-next, before, own, found, add-one) (sym (in-a-row _ (each-ascending d _ (λ i l. slot-numbered i n b (slotReading slots i)))))
+  refusal-next before own next =
+      next
+      ∙ rw (before, own, found, add-one)
+      (sym (in-a-row _ (each-ascending d _ (λ i l. slot-numbered i n b (slotReading slots i)))))
 
-  pub label-turn : {labels : List Label} → labels ≡ labelsBelow d slots → d < mostDisks → set labels d (r .label) ≡ labelsBelow (d + 1) slots
+  pub label-next : {labels : List Label} → labels ≡ labelsBelow d slots → d < mostDisks
+      → set labels d (r .label) ≡ labelsBelow (d + 1) slots
   unfolding ascending
-  label-turn e h =
+  label-next e h =
       let read : ℕ → Label = λ i. (slotReading slots i) .label in
       let before = ascending d (λ i. read i ∷ []) in
       let room : mostDisks - d ≡ suc (mostDisks - (d + 1)) = omega arith in
-      rw (e, found, room, add-one) (set-at before blank _ (read d) d (listed-length read d) ∙ sym (append-snoc before (read d) _))
+      rw (e, found, room, add-one)
+      (set-at before blank _ (read d) d (listed-length read d) ∙ sym (append-snoc before (read d) _))
 
 -- ---- the arguments, and then the slots
 
@@ -63,26 +70,29 @@ abbrev answer : ℕ → State → Answer
 answer refusal s = record { refusal = refusal; stores = 0; state = s }
 
 module _ (n b online : ℕ) (slots : List ℕ) where
-  both : firstOf (assembleRefusals n b online slots)
-      ≡ cond (eqb (firstOf (take 4 (assembleRefusals n b online slots))) 0) (firstOf (refusalsBelow n n b slots)) (firstOf (take 4 (assembleRefusals n b online slots)))
+  abbrev refusals : List (ℕ × Bool)
+  refusals = assembleRefusals n b online slots
+
+  arguments-then-slots : firstOf refusals
+      ≡ cond (eqb (firstOf (take 4 refusals)) 0) (firstOf (refusalsBelow n n b slots)) (firstOf (take 4 refusals))
   unfolding assembleRefusals
-  both =
-      in-a-row {earlier = take 4 (assembleRefusals n b online slots)} (refusalsBelow n n b slots)
+  arguments-then-slots =
+      in-a-row {earlier = take 4 refusals} (refusalsBelow n n b slots)
       (cons (λ e. lit< tt) (cons (λ e. lit< tt) (cons (λ e. lit< tt) (cons (λ e. lit< tt) nil))))
 
-  pub slots-next : firstOf (take 4 (assembleRefusals n b online slots)) ≡ 0 → firstOf (assembleRefusals n b online slots) ≡ firstOf (refusalsBelow n n b slots)
-  slots-next e = both ∙ rw e
+  pub slots-next : firstOf (take 4 refusals) ≡ 0 → firstOf refusals ≡ firstOf (refusalsBelow n n b slots)
+  slots-next e = arguments-then-slots ∙ rw e
 
-  pub arguments-stop : firstOf (take 4 (assembleRefusals n b online slots)) ≢ 0
-      → firstOf (assembleRefusals n b online slots) ≡ firstOf (take 4 (assembleRefusals n b online slots))
-  arguments-stop ne = both ∙ rw (ne-eqb _ 0 ne)
+  pub arguments-stop : firstOf (take 4 refusals) ≢ 0 → firstOf refusals ≡ firstOf (take 4 refusals)
+  arguments-stop ne = arguments-then-slots ∙ rw (ne-eqb _ 0 ne)
 
-  pub done-answer : {refusal : ℕ} {labels : List Label} → firstOf (assembleRefusals n b online slots) ≡ refusal → refusal ≡ 0 → labels ≡ labelsBelow n slots
-      → answer 0 (record { disks = n; blocks = b; labels = labels; online = online; power = Stopped }) ≡ assembleAnswer n b online slots
+  pub done-answer : {refusal : ℕ} {labels : List Label} → firstOf refusals ≡ refusal → refusal ≡ 0
+      → labels ≡ labelsBelow n slots → answer 0 (stateOf n b labels online Stopped) ≡ assembleAnswer n b online slots
   unfolding assembleAnswer assembled
   done-answer e z l = rw (e, z, l)
 
-  pub refused-answer : {refusal : ℕ} → firstOf (assembleRefusals n b online slots) ≡ refusal → refusal ≢ 0 → answer refusal zeroState ≡ assembleAnswer n b online slots
+  pub refused-answer : {refusal : ℕ} → firstOf refusals ≡ refusal → refusal ≢ 0
+      → answer refusal zeroState ≡ assembleAnswer n b online slots
   unfolding assembleAnswer
   refused-answer e ne = rw (e, ne-eqb _ 0 ne)
 
@@ -91,12 +101,13 @@ pub record ArgumentsPassed (n b : ℕ) (slots : List ℕ) : Type 0 where
   pub blocks : b ≤ mostBlocks
   pub size : length slots ≡ slotSize * n
 
-pub arguments-passed : (n b online : ℕ) (slots : List ℕ) → firstOf (take 4 (assembleRefusals n b online slots)) ≡ 0 → ArgumentsPassed n b slots
+pub arguments-passed : (n b online : ℕ) (slots : List ℕ) → firstOf (take 4 (assembleRefusals n b online slots)) ≡ 0
+    → ArgumentsPassed n b slots
 unfolding assembleRefusals
 arguments-passed n b online slots e =
     let no = none-at (take 4 (assembleRefusals n b online slots)) refl e in
     record {
-      disks = in-range narrow n (no 0) .1;
+      disks = in-range labelForm n (no 0) .1;
       blocks = ltb-false _ _ (or-parts (ltb b 1) (ltb mostBlocks b) (no 1) .1);
       size = eqb-true _ _ (not-false _ (no 2));
     }

@@ -1,40 +1,33 @@
--- The first refusal of slots, as the code finds it. Assumes nothing.
-use mathlib.Core.Path.{_≡_, refl}
+-- What slots are refused for, as the code finds it. Assumes nothing.
+use mathlib.Core.Path.{_≡_, refl, sym, _∙_}
 use mathlib.Core.Logic.{_≢_, _⊎_, inl, inr}
 use mathlib.Core.Bool.{Bool, true, false, not, cond, _||_, or-true}
-use mathlib.Core.List.{List, [], _∷_, _++_}
-use Prim.Native.Nat.{ℕ, zero, suc, _*_, _/_, _%_}
+use mathlib.Core.List.{List, _++_}
+use Prim.Native.Nat.{ℕ, _*_, _/_, _%_, _<_}
+use native.Mathlib.Nat.{add-zero, div-add-mod, mul-div-right, mul-mod-right}
 use native.Mathlib.Omega.{arith}
-use lib.Dec.{eqb, eqb·suc-zero}
+use lib.Dec.{eqb}
 use borrow.Author.Tests.{eq-eqb, ne-eqb}
 use Rattle.sets.proofs.Tests.{same-or-not}
-use Rattle.label.specs.Bytes.{longestLabel}
-use Rattle.label.specs.Refusals.{firstOf, orElse}
-use Rattle.protocol.specs.Saving.{slotSize}
+use Rattle.refusals.specs.Refusals.{firstOf}
 use Rattle.protocol.proofs.Loops.{Each, nil, cons}
 use Rattle.protocol.proofs.Refusals.{Numbered}
 
 -- ---- the size of a slot buffer
 
-pub wrong-if : (size n : ℕ) → (not (eqb (size / 5) n) || not (eqb (size % 5) 0)) ≡ not (eqb size (slotSize * n))
-unfolding longestLabel
-wrong-if size n = go (same-or-not size (5 * n)) (same-or-not (size / 5) n)
+-- so many slots, each of `slot` bytes: by a division, since a product might overflow
+pub wrong-if : (slot size n : ℕ) → 0 < slot
+    → (not (eqb (size / slot) n) || not (eqb (size % slot) 0)) ≡ not (eqb size (slot * n))
+wrong-if slot size n some = go (same-or-not size (slot * n)) (same-or-not (size / slot) n)
   where
-    go : (size ≡ 5 * n) ⊎ (size ≢ 5 * n) → (size / 5 ≡ n) ⊎ (size / 5 ≢ n) → (not (eqb (size / 5) n) || not (eqb (size % 5) 0)) ≡ not (eqb size (5 * n))
-    go (inl e) q = rw (eq-eqb size (5 * n) e, eq-eqb (size / 5) n (omega arith), eq-eqb (size % 5) 0 (omega arith))
-    go (inr ne) (inl q) = rw (ne-eqb size (5 * n) ne, ne-eqb (size % 5) 0 (λ z. ne (omega arith))) (or-true (not (eqb (size / 5) n)))
-    go (inr ne) (inr q) = rw (ne-eqb size (5 * n) ne, ne-eqb (size / 5) n q)
-
--- ---- one slot
-
--- its refusals in turn, where the number of the first may be 0
-pub slot-first : (own : ℕ) (place region : Bool)
-    → orElse (orElse (orElse 0 (not (eqb own 0)) own) place 18) region 22 ≡ firstOf ((own, not (eqb own 0)) ∷ (18, place) ∷ (22, region) ∷ [])
-unfolding orElse firstOf
-slot-first zero true region = refl
-slot-first zero false true = refl
-slot-first zero false false = refl
-slot-first (suc own) place region = simp (eqb·suc-zero own)
+    go : (size ≡ slot * n) ⊎ (size ≢ slot * n) → (size / slot ≡ n) ⊎ (size / slot ≢ n)
+        → (not (eqb (size / slot) n) || not (eqb (size % slot) 0)) ≡ not (eqb size (slot * n))
+    go (inl e) q =
+        rw (e, mul-div-right n some, mul-mod-right slot n, eq-eqb n n refl, eq-eqb (slot * n) (slot * n) refl)
+    go (inr ne) (inl q) =
+        let rest : size % slot ≢ 0 = λ z. ne (sym (div-add-mod size slot) ∙ rw (q, z) (add-zero (slot * n))) in
+        rw (ne-eqb size (slot * n) ne, ne-eqb (size % slot) 0 rest) (or-true (not (eqb (size / slot) n)))
+    go (inr ne) (inr q) = rw (ne-eqb size (slot * n) ne, ne-eqb (size / slot) n q)
 
 -- ---- paragraphs in a row
 
@@ -45,9 +38,3 @@ unfolding firstOf
 in-a-row later nil = refl
 in-a-row later (cons {x = (number, true)} p ps) = rw (ne-eqb number 0 (λ e. omega (arith, p refl)))
 in-a-row later (cons {x = (number, false)} p ps) = in-a-row later ps
-
--- so the code takes the next one's whole, as one refusal
-pub or-next : (earlier next : ℕ) → orElse earlier (not (eqb next 0)) next ≡ cond (eqb earlier 0) next earlier
-unfolding orElse
-or-next earlier zero = refl
-or-next earlier (suc next) = rw (eqb·suc-zero next)

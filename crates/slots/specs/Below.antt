@@ -6,11 +6,12 @@ use lib.ListN.{replicate}
 use Rattle.label.specs.declared.Label.{Label}
 use Rattle.protocol.specs.Geometry.{mostDisks}
 use Rattle.protocol.specs.Loops.{ascending}
-use Rattle.protocol.specs.States.{blank}
-use Rattle.protocol.specs.Saving.{slotReading, slotRefusals}
+use Rattle.label.specs.Bytes.{blank}
+use Rattle.protocol.specs.Saving.{slotReading}
+use Rattle.protocol.specs.Bays.{bayRefusals}
 
 abbrev pub refusalsBelow : ℕ → ℕ → ℕ → List ℕ → List (ℕ × Bool)
-refusalsBelow i n b slots = ascending i (λ d. slotRefusals d n b (slotReading slots d))
+refusalsBelow i n b slots = ascending i (λ d. bayRefusals d n b (slotReading slots d))
 
 -- their labels, and those of the other disks all zero
 abbrev pub labelsBelow : ℕ → List ℕ → List Label

@@ -4,9 +4,7 @@ ghost use mathlib.Core.Bool.{not};
 ghost use Prim.Native.Nat.{_*_};
 ghost use lib.Dec.{eqb};
 ghost use Rattle.protocol.specs.Saving.{slotSize};
-
-// As many bytes as the longest label has.
-pub(crate) const SLOT_SIZE: usize = 5;
+use protocol::geometry::SLOT_SIZE;
 
 // Whether a buffer of this size is not that of so many slots: of any number, whose product might overflow.
 pub(crate) fn wrong_size(disks: usize, size: usize) -> bool

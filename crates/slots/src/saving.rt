@@ -3,35 +3,36 @@ ghost use mathlib.Core.Path.{_≡_};
 ghost use mathlib.Core.List.{List};
 ghost use Prim.Native.Nat.{ℕ, _*_};
 ghost use lib.ListN.{length};
-ghost use Rattle.label.specs.Form.{narrow};
-ghost use Rattle.label.specs.Refusals.{firstOf};
+ghost use Rattle.refusals.specs.Refusals.{firstOf};
 ghost use Rattle.label.specs.Writing.{writeRefusal};
+ghost use Rattle.protocol.specs.Geometry.{labelForm};
 ghost use Rattle.protocol.specs.Loops.{ascending};
 ghost use Rattle.protocol.specs.States.{labelAt};
 ghost use Rattle.protocol.specs.Soundness.{Sound};
+ghost use Rattle.protocol.specs.Outcomes.{yields};
 ghost use Rattle.protocol.specs.Saving.{slotSize, slotBytes, saveRefusals, saveOutcome};
-use crate::form::SLOT_SIZE;
 use crate::form::wrong_size;
 use label::Label;
-use label::refusal::or_else;
 use protocol::Answer;
 use protocol::State;
-use protocol::refusal::BUFFER_LENGTH;
-use protocol::refusal::UNSOUND;
-use soundness::sound;
+use protocol::geometry::SLOT_SIZE;
+use protocol::geometry::label_form;
+use refusals::PASSED;
+use refusals::Refusal;
+use refusals::first_of;
+use refusals::numbers::BUFFER_LENGTH;
+use refusals::numbers::UNSOUND;
+use state::sound;
 use state::without_stores;
 
 // The label, and "the rest of the slot zero".
 fn write_slot(slot: &mut [u8], d: usize, disks: usize, label: Label)
-    requires { ⌜ (length (now slot) ≡ slotSize) × (writeRefusal narrow d disks label slotSize ≡ 0) ⌝ }
+    requires { ⌜ (length (now slot) ≡ slotSize) × (writeRefusal labelForm d disks label slotSize ≡ 0) ⌝ }
     ensures { λ _. ⌜ now (slot .exit) ≡ slotBytes d disks label ⌝ }
 {
-    let written = label::write(slot, d, disks, label);
-    let mut i = written.length;
-    while i < SLOT_SIZE {
-        slot[i] = 0;
-        i += 1;
-    }
+    let written = label_form::write(slot, d, disks, label);
+    let rest = written.length;
+    buffers::clear(&mut slot[rest..]);
 }
 
 fn write_slots(s: State, slots: &mut [u8])
@@ -56,13 +57,21 @@ fn save_refusal(s: State, size: usize) -> u8
     let disks = s.disks as usize;
     let fit = sound(s);
     let wrong = wrong_size(disks, size);
-    let first = or_else(0, !fit, UNSOUND);
-    or_else(first, wrong, BUFFER_LENGTH)
+    first_of([
+        Refusal(UNSOUND, !fit),
+        Refusal(BUFFER_LENGTH, wrong),
+        PASSED,
+        PASSED,
+        PASSED,
+        PASSED,
+        PASSED,
+        PASSED,
+    ])
 }
 
 // The slot buffer is its output; it has no disk area, so it leaves any.
 pub fn save(s: State, slots: &mut [u8]) -> Answer
-    ensures { λ r. ⌜ ((area : List ℕ) → record { answer = r; area = area; output = now (slots .exit) } ≡ saveOutcome s area (now (slots .entry))) ⌝ }
+    ensures { λ r. ⌜ ((area : List ℕ) → yields r area (now (slots .exit)) ≡ saveOutcome s area (now (slots .entry))) ⌝ }
 {
     let refusal = save_refusal(s, slots.len());
     if refusal == 0 {

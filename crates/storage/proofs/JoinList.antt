@@ -10,23 +10,31 @@ use Rattle.protocol.specs.Loops.{ascending}
 use Rattle.protocol.specs.States.{currentOf, live, source}
 use Rattle.protocol.specs.Stores.{copy}
 use Rattle.protocol.specs.Lists.{move, moveToLive, fill, joinList}
-use Rattle.protocol.proofs.Turns.{listed-length}
-use Rattle.stores.specs.Runs.{Progress, steps}
+use Rattle.protocol.proofs.Iterations.{listed-length}
+use Rattle.stores.specs.Runs.{Progress, runAll}
 use Rattle.stores.proofs.Runs.{in-sequence}
 
 module _ (s : State) (d : ℕ) where
-  pub join-ran : (p : Progress) {q r t : Progress} → q ≡ steps (s .blocks) (moveToLive (s .disks) (currentOf (s .power)) (live s)) p
-      → r ≡ steps (s .blocks) (ascending (s .blocks) (λ k. copy (source (live s)) d k ∷ [])) q
-      → t ≡ steps (s .blocks) (move (s .disks) (union (live s) (singleton d))) r
-      → t ≡ steps (s .blocks) (joinList s d) p
+  pub join-ran : (p : Progress) {q r t : Progress}
+      → q ≡ runAll (s .blocks) (moveToLive (s .disks) (currentOf (s .power)) (live s)) p
+      → r ≡ runAll (s .blocks) (ascending (s .blocks) (λ k. copy (source (live s)) d k ∷ [])) q
+      → t ≡ runAll (s .blocks) (move (s .disks) (union (live s) (singleton d))) r
+      → t ≡ runAll (s .blocks) (joinList s d) p
   unfolding joinList fill
-  join-ran p {q} first second third = in-sequence (s .blocks) _ _ p first (in-sequence (s .blocks) (fill (s .blocks) (live s) d) _ q second third)
+  join-ran p {q} first second third =
+      in-sequence (s .blocks) _ _ p first (in-sequence (s .blocks) (fill (s .blocks) (live s) d) _ q second third)
 
   pub join-length : length (joinList s d)
-      ≡ length (moveToLive (s .disks) (currentOf (s .power)) (live s)) + s .blocks + length (move (s .disks) (union (live s) (singleton d)))
+      ≡ length (moveToLive (s .disks) (currentOf (s .power)) (live s)) + s .blocks
+      + length (move (s .disks) (union (live s) (singleton d)))
   unfolding joinList fill
   join-length =
       let moved = moveToLive (s .disks) (currentOf (s .power)) (live s) in
       let filled = fill (s .blocks) (live s) d in
       let last = move (s .disks) (union (live s) (singleton d)) in
-      omega (arith, length-append moved (filled ++ last), length-append filled last, listed-length (λ k. copy (source (live s)) d k) (s .blocks))
+      omega (
+        arith,
+        length-append moved (filled ++ last),
+        length-append filled last,
+        listed-length (λ k. copy (source (live s)) d k) (s .blocks),
+      )

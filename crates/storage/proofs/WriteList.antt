@@ -15,28 +15,31 @@ use Rattle.protocol.specs.Stores.{write, mark}
 use Rattle.protocol.specs.Lists.{moveToLive, marks, blockStores, preparations, writeList}
 use Rattle.protocol.proofs.Loops.{for-length}
 use Rattle.protocol.proofs.Soundness.{live-known}
-use Rattle.stores.specs.Runs.{Progress, steps}
+use Rattle.stores.specs.Runs.{Progress, runAll}
 use Rattle.stores.proofs.Runs.{in-sequence}
-use Rattle.tally.specs.DirtyBits.{dirtyDisks}
-use Rattle.tally.proofs.DirtyBits.{where-lacks}
+use Rattle.state.specs.DirtyBits.{dirtyDisks}
+use Rattle.state.proofs.DirtyBits.{where-lacks}
 
 module _ (s : State) (k : ℕ) (bytes : List ℕ) where
   -- the disks of L where the bit does not stand
   abbrev pub unmarked : ℕ
   unmarked = difference (live s) (dirtyDisks (s .disks) (s .labels) (regionOf k))
 
-  pub write-ran : s .disks ≤ mostDisks → (p : Progress) {q r t : Progress} → q ≡ steps (s .blocks) (moveToLive (s .disks) (currentOf (s .power)) (live s)) p
-      → r ≡ steps (s .blocks) (forEach (s .disks) unmarked (λ d. mark d (regionOf k) ∷ [])) q
-      → t ≡ steps (s .blocks) (forEach (s .disks) (live s) (λ d. write d k bytes ∷ [])) r
-      → t ≡ steps (s .blocks) (writeList s k bytes) p
+  pub write-ran : s .disks ≤ mostDisks → (p : Progress) {q r t : Progress}
+      → q ≡ runAll (s .blocks) (moveToLive (s .disks) (currentOf (s .power)) (live s)) p
+      → r ≡ runAll (s .blocks) (forEach (s .disks) unmarked (λ d. mark d (regionOf k) ∷ [])) q
+      → t ≡ runAll (s .blocks) (forEach (s .disks) (live s) (λ d. write d k bytes ∷ [])) r
+      → t ≡ runAll (s .blocks) (writeList s k bytes) p
   unfolding writeList preparations marks blockStores
   write-ran few p first second third =
       let b = s .blocks in
       rw (where-lacks (s .labels) (regionOf k) (s .disks) few (live s) (λ d. mark d (regionOf k)))
-      (in-sequence b _ _ p (in-sequence b (moveToLive (s .disks) (currentOf (s .power)) (live s)) _ p first second) third)
+      (in-sequence b _ _ p
+      (in-sequence b (moveToLive (s .disks) (currentOf (s .power)) (live s)) _ p first second) third)
 
   pub write-length : Sound s
-      → length (writeList s k bytes) ≡ length (moveToLive (s .disks) (currentOf (s .power)) (live s)) + size unmarked + size (live s)
+      → length (writeList s k bytes)
+      ≡ length (moveToLive (s .disks) (currentOf (s .power)) (live s)) + size unmarked + size (live s)
   unfolding writeList preparations marks blockStores
   write-length fit =
       let n = s .disks in

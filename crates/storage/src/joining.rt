@@ -5,25 +5,28 @@ ghost use Prim.Native.Nat.{ℕ, _<_};
 ghost use Rattle.sets.specs.Sets.{union, singleton};
 ghost use Rattle.protocol.specs.States.{live};
 ghost use Rattle.protocol.specs.Lists.{joinList};
-ghost use Rattle.protocol.specs.Outcomes.{carryOut};
+ghost use Rattle.protocol.specs.Outcomes.{yields, runsWith, carryOut};
 ghost use Rattle.protocol.specs.Calls.{joinOutcome};
-ghost use Rattle.tally.specs.Ready.{Ready};
+ghost use Rattle.stores.specs.Sizes.{SoundCabinet};
+use crate::checks::join_refusal;
 use crate::moves::live_length;
 use crate::moves::move_length;
 use crate::moves::move_to;
 use crate::moves::move_to_live;
-use crate::refusals::join_refusal;
 use protocol::Answer;
 use protocol::State;
 use state::without_stores;
-use tally::ended;
-use tally::size_of;
-use tally::started;
+use stores::ended;
+use stores::size_of;
+use stores::started;
 
-// "if L differs from G, move to L. Copy all blocks, ascending, from the lowest member of L to d. Then move to L with d."
+// "if L differs from G, move to L. Copy all blocks, ascending, from the lowest
+// member of L to d. Then move to L with d."
 fn join_stores(s: State, area: &mut [u8], d: usize, budget: u16) -> Answer
-    requires { ⌜ Ready s (now area) × (0 < live s) × (d < s .disks) ⌝ }
-    ensures { λ r. ⌜ ((output : List ℕ) → record { answer = r; area = now (area .exit); output = output } ≡ carryOut (joinList s d) budget (union (live s) (singleton d)) s (now (area .entry)) output) ⌝ }
+    requires { ⌜ SoundCabinet s (now area) × (0 < live s) × (d < s .disks) ⌝ }
+    ensures { λ r. ⌜ ((output : List ℕ) → yields r (now (area .exit)) output
+        ≡ carryOut (joinList s d) budget s (now (area .entry)) output
+        (runsWith (union (live s) (singleton d)) s output)) ⌝ }
 {
     let power = s.power;
     let size = size_of(s);
@@ -41,7 +44,8 @@ fn join_stores(s: State, area: &mut [u8], d: usize, budget: u16) -> Answer
 
 // Given no output, it leaves any.
 pub fn join(s: State, area: &mut [u8], d: usize, budget: u16) -> Answer
-    ensures { λ r. ⌜ ((output : List ℕ) → record { answer = r; area = now (area .exit); output = output } ≡ joinOutcome s (now (area .entry)) output d budget) ⌝ }
+    ensures { λ r. ⌜ ((output : List ℕ) → yields r (now (area .exit)) output
+        ≡ joinOutcome s (now (area .entry)) output d budget) ⌝ }
 {
     let refusal = join_refusal(s, area.len(), d);
     if refusal == 0 {

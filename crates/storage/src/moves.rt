@@ -7,17 +7,16 @@ ghost use lib.ListN.{length};
 ghost use Rattle.sets.specs.Sets.{below};
 ghost use Rattle.protocol.specs.Geometry.{mostDisks};
 ghost use Rattle.protocol.specs.Lists.{move, moveToLive};
-ghost use Rattle.stores.specs.Runs.{progress, steps};
+ghost use Rattle.stores.specs.Runs.{progress, runAll};
 use sets::DISKS;
 use sets::Mask;
 use stores::Change;
 use stores::Run;
-use tally::count;
 
 // "for each disk of S, ascending, store T = S; then for each disk of S, ascending, store C = S and T = 0"
 pub(crate) fn move_to(run: Run, n: usize, set: Mask) -> Run
     requires { do ⌜ n ≤ (← ⟦DISKS⟧) ⌝ }
-    ensures { λ r. ⌜ ((b : ℕ) (area : List ℕ) → progress r area ≡ steps b (move n set) (progress run area)) ⌝ }
+    ensures { λ r. ⌜ ((b : ℕ) (area : List ℕ) → progress r area ≡ runAll b (move n set) (progress run area)) ⌝ }
 {
     let run = stores::store_labels(run, n, set, Change::Propose(set));
     stores::store_labels(run, n, set, Change::Commit(set))
@@ -26,7 +25,8 @@ pub(crate) fn move_to(run: Run, n: usize, set: Mask) -> Run
 // "if L differs from G, move to L"
 pub(crate) fn move_to_live(run: Run, n: usize, current: Mask, live: Mask) -> Run
     requires { do ⌜ n ≤ (← ⟦DISKS⟧) ⌝ }
-    ensures { λ r. ⌜ ((b : ℕ) (area : List ℕ) → progress r area ≡ steps b (moveToLive n current live) (progress run area)) ⌝ }
+    ensures { λ r. ⌜ ((b : ℕ) (area : List ℕ) → progress r area
+        ≡ runAll b (moveToLive n current live) (progress run area)) ⌝ }
 {
     if live == current {
         return run;
@@ -38,7 +38,7 @@ pub(crate) fn move_to_live(run: Run, n: usize, current: Mask, live: Mask) -> Run
 pub(crate) fn move_length(set: Mask) -> usize
     ensures { λ r. ⌜ ((n : ℕ) → below set n ≡ true → r ≡ length (move n set)) × (r ≤ 2 * mostDisks) ⌝ }
 {
-    2 * count(set)
+    2 * sets::size(set)
 }
 
 pub(crate) fn live_length(current: Mask, live: Mask) -> usize

@@ -1,7 +1,8 @@
 // Read.
 ghost use mathlib.Core.Path.{_≡_};
+ghost use Rattle.protocol.specs.Outcomes.{yields};
 ghost use Rattle.protocol.specs.Calls.{readOutcome};
-use crate::refusals::block_refusal;
+use crate::checks::block_refusal;
 use area::load;
 use area::to_slice;
 use protocol::Answer;
@@ -12,7 +13,8 @@ use state::without_stores;
 
 // "Read copies block k from the lowest member of L."
 pub fn read(s: State, area: &[u8], k: usize, output: &mut [u8]) -> Answer
-    ensures { λ r. ⌜ record { answer = r; area = now (area .entry); output = now (output .exit) } ≡ readOutcome s (now (area .entry)) (now (output .entry)) k ⌝ }
+    ensures { λ r. ⌜ yields r (now (area .entry)) (now (output .exit))
+        ≡ readOutcome s (now (area .entry)) (now (output .entry)) k ⌝ }
 {
     let refusal = block_refusal(s, area.len(), k, output.len());
     if refusal == 0 {

@@ -6,29 +6,30 @@ ghost use lib.ListN.{length};
 ghost use Rattle.protocol.specs.Geometry.{blockSize};
 ghost use Rattle.protocol.specs.States.{live};
 ghost use Rattle.protocol.specs.Lists.{writeList};
-ghost use Rattle.protocol.specs.Outcomes.{carryOut};
+ghost use Rattle.protocol.specs.Outcomes.{yields, runsWith, carryOut};
 ghost use Rattle.protocol.specs.Calls.{writeOutcome};
-ghost use Rattle.tally.specs.Ready.{Ready};
+ghost use Rattle.stores.specs.Sizes.{SoundCabinet};
+use crate::checks::block_refusal;
 use crate::moves::live_length;
 use crate::moves::move_to_live;
-use crate::refusals::block_refusal;
 use area::from_slice;
 use protocol::Answer;
 use protocol::State;
 use protocol::geometry::REGION_SIZE;
+use state::dirty_disks;
 use state::without_stores;
 use stores::Change;
-use tally::count;
-use tally::dirty_disks;
-use tally::ended;
-use tally::size_of;
-use tally::started;
+use stores::ended;
+use stores::size_of;
+use stores::started;
 
-// "if L differs from G, move to L. Then set the region's dirty bit on each disk of L, ascending, where it does not stand.
-// Then store the block on each disk of L, ascending."
+// "if L differs from G, move to L. Then set the region's dirty bit on each disk of L, ascending, where it does not
+// stand. Then store the block on each disk of L, ascending."
 fn write_stores(s: State, area: &mut [u8], k: usize, bytes: &[u8], budget: u16) -> Answer
-    requires { ⌜ Ready s (now area) × (k < s .blocks) × (length (now bytes) ≡ blockSize) ⌝ }
-    ensures { λ r. ⌜ ((output : List ℕ) → record { answer = r; area = now (area .exit); output = output } ≡ carryOut (writeList s k (now (bytes .entry))) budget (live s) s (now (area .entry)) output) ⌝ }
+    requires { ⌜ SoundCabinet s (now area) × (k < s .blocks) × (length (now bytes) ≡ blockSize) ⌝ }
+    ensures { λ r. ⌜ ((output : List ℕ) → yields r (now (area .exit)) output
+        ≡ carryOut (writeList s k (now (bytes .entry))) budget s (now (area .entry)) output
+        (runsWith (live s) s output)) ⌝ }
 {
     let power = s.power;
     let labels = s.labels;
@@ -38,7 +39,7 @@ fn write_stores(s: State, area: &mut [u8], k: usize, bytes: &[u8], budget: u16) 
     let live = state::live(s);
     let region = k / REGION_SIZE;
     let unmarked = sets::difference(live, dirty_disks(labels, n, region));
-    let stores = live_length(current, live) + count(unmarked) + count(live);
+    let stores = live_length(current, live) + sets::size(unmarked) + sets::size(live);
     let run = move_to_live(started(s, budget), n, current, live);
     let run = stores::store_labels(run, n, unmarked, Change::Mark(region));
     let run = stores::store_blocks(run, area, size, live, k, from_slice(bytes));
@@ -47,7 +48,8 @@ fn write_stores(s: State, area: &mut [u8], k: usize, bytes: &[u8], budget: u16) 
 
 // Given no output, it leaves any.
 pub fn write(s: State, area: &mut [u8], k: usize, bytes: &[u8], budget: u16) -> Answer
-    ensures { λ r. ⌜ ((output : List ℕ) → record { answer = r; area = now (area .exit); output = output } ≡ writeOutcome s (now (area .entry)) output k (now (bytes .entry)) budget) ⌝ }
+    ensures { λ r. ⌜ ((output : List ℕ) → yields r (now (area .exit)) output
+        ≡ writeOutcome s (now (area .entry)) output k (now (bytes .entry)) budget) ⌝ }
 {
     let refusal = block_refusal(s, area.len(), k, bytes.len());
     if refusal == 0 {

@@ -2,15 +2,15 @@
 use Prim.Native.Nat.{ℕ, _<_}
 use Rattle.sets.specs.Sets.{union, difference, singleton}
 use Rattle.label.specs.declared.Label.{Label}
-use Rattle.protocol.specs.Geometry.{mostDisks}
+use Rattle.protocol.specs.Geometry.{mostRegions}
 use Rattle.protocol.specs.Stores.{Store, mark, clear, propose, commit, withDirty, withTentative, withCommitted}
 use Rattle.stores.specs.declared.Change.{Change}
 use Rattle.stores.specs.declared.Change.the-variants.{Mark, Clear, Propose, Commit}
 
--- a region has its bit in the dirty map, which is a mask as a set of disks is
+-- a region has its bit in the dirty map
 abbrev pub FitChange : Change → Type 0
-FitChange (Mark r) = r < mostDisks
-FitChange (Clear r) = r < mostDisks
+FitChange (Mark r) = r < mostRegions
+FitChange (Clear r) = r < mostRegions
 FitChange (Propose set) = Unit {0}
 FitChange (Commit set) = Unit {0}
 

@@ -1,3 +1,4 @@
 pub mod Runs
 pub mod Changes
 pub mod Sizes
+pub mod Answers

@@ -6,7 +6,7 @@ ghost use Prim.Native.Nat.{_+_, _≤_, _<_};
 ghost use Rattle.sets.specs.Sets.{has};
 ghost use Rattle.protocol.specs.Loops.{ascending, forEach};
 ghost use Rattle.protocol.specs.Stores.{write, copy};
-ghost use Rattle.stores.specs.Runs.{progress, steps};
+ghost use Rattle.stores.specs.Runs.{progress, runAll};
 ghost use Rattle.stores.specs.Sizes.{Fits};
 use crate::Run;
 use crate::Size;
@@ -23,7 +23,9 @@ pub fn store_blocks(
     bytes: [u8; BLOCK_SIZE],
 ) -> Run
     requires { ⌜ Fits (size .disks) (size .blocks) (now area) × (k < size .blocks) ⌝ }
-    ensures { λ r. ⌜ progress r (now (area .exit)) ≡ steps (size .blocks) (forEach (size .disks) set (λ d. write d k bytes ∷ [])) (progress run (now (area .entry))) ⌝ }
+    ensures { λ r. ⌜ progress r (now (area .exit))
+        ≡ runAll (size .blocks) (forEach (size .disks) set (λ d. write d k bytes ∷ []))
+        (progress run (now (area .entry))) ⌝ }
 {
     let n = size.disks;
     let mut run = run;
@@ -40,8 +42,11 @@ pub fn store_blocks(
 
 // Block k of one disk on each disk of a set without it, ascending. It is loaded once: no store of the set changes it.
 fn copy_block(run: Run, area: &mut [u8], size: Size, from: usize, set: Mask, k: usize) -> Run
-    requires { ⌜ Fits (size .disks) (size .blocks) (now area) × (from < size .disks) × (has set from ≡ false) × (k < size .blocks) ⌝ }
-    ensures { λ r. ⌜ progress r (now (area .exit)) ≡ steps (size .blocks) (forEach (size .disks) set (λ d. copy from d k ∷ [])) (progress run (now (area .entry))) ⌝ }
+    requires { ⌜ Fits (size .disks) (size .blocks) (now area) × (from < size .disks) × (has set from ≡ false)
+        × (k < size .blocks) ⌝ }
+    ensures { λ r. ⌜ progress r (now (area .exit))
+        ≡ runAll (size .blocks) (forEach (size .disks) set (λ d. copy from d k ∷ []))
+        (progress run (now (area .entry))) ⌝ }
 {
     let bytes = area::load(area, size.blocks, from, k);
     store_blocks(run, area, size, set, k, bytes)
@@ -57,8 +62,11 @@ pub fn copy_blocks(
     first: usize,
     count: usize,
 ) -> Run
-    requires { ⌜ Fits (size .disks) (size .blocks) (now area) × (from < size .disks) × (has set from ≡ false) × (first + count ≤ size .blocks) ⌝ }
-    ensures { λ r. ⌜ progress r (now (area .exit)) ≡ steps (size .blocks) (ascending count (λ i. forEach (size .disks) set (λ d. copy from d (first + i) ∷ []))) (progress run (now (area .entry))) ⌝ }
+    requires { ⌜ Fits (size .disks) (size .blocks) (now area) × (from < size .disks) × (has set from ≡ false)
+        × (first + count ≤ size .blocks) ⌝ }
+    ensures { λ r. ⌜ progress r (now (area .exit))
+        ≡ runAll (size .blocks) (ascending count (λ i. forEach (size .disks) set (λ d. copy from d (first + i) ∷ [])))
+        (progress run (now (area .entry))) ⌝ }
 {
     let mut run = run;
     let mut i = 0;
@@ -72,7 +80,9 @@ pub fn copy_blocks(
 // All blocks of one disk on another, ascending, while the power allows.
 pub fn copy_disk(run: Run, area: &mut [u8], size: Size, from: usize, to: usize) -> Run
     requires { ⌜ Fits (size .disks) (size .blocks) (now area) × (from < size .disks) × (to < size .disks) ⌝ }
-    ensures { λ r. ⌜ progress r (now (area .exit)) ≡ steps (size .blocks) (ascending (size .blocks) (λ k. copy from to k ∷ [])) (progress run (now (area .entry))) ⌝ }
+    ensures { λ r. ⌜ progress r (now (area .exit))
+        ≡ runAll (size .blocks) (ascending (size .blocks) (λ k. copy from to k ∷ []))
+        (progress run (now (area .entry))) ⌝ }
 {
     let blocks = size.blocks;
     let mut run = run;

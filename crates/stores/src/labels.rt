@@ -3,7 +3,7 @@ ghost use mathlib.Core.Path.{_≡_};
 ghost use mathlib.Core.List.{List, [], _∷_};
 ghost use Prim.Native.Nat.{ℕ, _≤_};
 ghost use Rattle.protocol.specs.Loops.{forEach};
-ghost use Rattle.stores.specs.Runs.{progress, steps};
+ghost use Rattle.stores.specs.Runs.{progress, runAll};
 ghost use Rattle.stores.specs.Changes.{FitChange, changed, changeOn};
 use crate::Change;
 use crate::Run;
@@ -19,12 +19,12 @@ fn changed(l: Label, change: Change) -> Label
         Change::Mark(r) => Label {
             committed: l.committed,
             tentative: l.tentative,
-            dirty: sets::union(l.dirty, sets::singleton(r)),
+            dirty: regions::marked(l.dirty, r),
         },
         Change::Clear(r) => Label {
             committed: l.committed,
             tentative: l.tentative,
-            dirty: sets::difference(l.dirty, sets::singleton(r)),
+            dirty: regions::cleared(l.dirty, r),
         },
         Change::Propose(set) => Label {
             committed: l.committed,
@@ -39,11 +39,12 @@ fn changed(l: Label, change: Change) -> Label
     }
 }
 
-// The store on each disk of the set below n, ascending, while the power allows. Labels and budget are taken apart meanwhile:
-// a budget in a register costs nothing to count down.
+// The store on each disk of the set below n, ascending, while the power allows. Labels and budget are taken apart
+// meanwhile: a budget in a register costs nothing to count down.
 pub fn store_labels(run: Run, n: usize, set: Mask, change: Change) -> Run
     requires { do ⌜ (n ≤ (← ⟦DISKS⟧)) × FitChange change ⌝ }
-    ensures { λ r. ⌜ ((b : ℕ) (area : List ℕ) → progress r area ≡ steps b (forEach n set (λ d. changeOn change d ∷ [])) (progress run area)) ⌝ }
+    ensures { λ r. ⌜ ((b : ℕ) (area : List ℕ) → progress r area
+        ≡ runAll b (forEach n set (λ d. changeOn change d ∷ [])) (progress run area)) ⌝ }
 {
     if set == 0 {
         return run;

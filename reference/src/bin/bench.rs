@@ -1,5 +1,5 @@
-//! `bench PROGRAM_A PROGRAM_B [LINES]` runs two cabinet programs on the same session, alternating, and prints the median
-//! time of each and their ratio. The outputs must be equal.
+//! `bench PROGRAM_A PROGRAM_B [LINES]` runs two cabinet programs on the same session, alternating, and prints the
+//! median time of each and their ratio. The outputs must be equal.
 
 #![forbid(unsafe_code)]
 

@@ -4,12 +4,6 @@ use Rattle.area.proofs.Sizes.{no-blocks, some-blocks}
 use Rattle.area.proofs.fits.Statement.{statement}
 use Rattle.area.proofs.fits.Tie as tie
 
-rem-result : tie.Need-rem-result
-rem-result c = search needs
-
-div-result : tie.Need-div-result
-div-result c = search needs
-
 returns : tie.Need-returns
 returns c = rw (c .if1 .taken) (no-blocks _ _)
 
@@ -17,4 +11,4 @@ returns-2 : tie.Need-returns-2
 returns-2 c = some-blocks _ _ _ (search needs)
 
 pub fits-spec : {M : Type 1} → statement M
-fits-spec = tie.close (tie.spec rem-result div-result returns returns-2)
+fits-spec = tie.close (tie.spec (search needs) (search needs) returns returns-2)

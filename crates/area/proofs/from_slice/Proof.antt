@@ -3,16 +3,10 @@ use mathlib.Core.Path.{_∙_}
 use borrow.Author.Needs.{needs}
 use Rattle.area.proofs.Parts.{alone-loaded}
 use Rattle.area.proofs.from_slice.Statement.{statement}
-use Rattle.area.proofs.from_slice.Reads as reads
-use Rattle.area.proofs.from_slice.Lts as lts
-use Rattle.area.proofs.load_block.Reads as load-block-reads
 use Rattle.area.proofs.from_slice.Tie as tie
-
-load-block-requires : tie.Need-load-block-requires
-load-block-requires c κs = search needs
 
 returns : tie.Need-returns
 returns c = c .load-block .ensures ∙ alone-loaded _ (c .before .before .pre)
 
 pub from-slice-spec : {M : Type 1} → statement M
-from-slice-spec = tie.close (tie.spec load-block-requires returns)
+from-slice-spec = tie.close (tie.spec (search needs) returns)

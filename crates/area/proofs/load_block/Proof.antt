@@ -6,7 +6,7 @@ use native.Mathlib.Omega.{arith}
 use lib.ListN.{length, take, drop, length-set, length-drop}
 use lib.Seq.{getD-drop}
 use Rattle.protocol.specs.Geometry.{blockSize}
-use Rattle.area.proofs.Parts.{fill-turn, fill-end}
+use Rattle.buffers.proofs.Filling.{fill-next, fill-end}
 use Rattle.area.proofs.load_block.Statement.{statement}
 use Rattle.area.proofs.load_block.Tie as tie
 
@@ -17,27 +17,6 @@ Inv-loop part k at bytes₀ i₀ bytes i =
 abbrev μ-loop : tie.MeasureT-loop
 μ-loop part k at bytes₀ i₀ bytes i = blockSize - i
 
-mul-at : tie.Need-mul-at Inv-loop μ-loop
-mul-at c = omega arith
-
-loop-holds : tie.Need-loop-holds Inv-loop μ-loop
-loop-holds c = (omega arith, refl, refl)
-
-add-bytes : tie.Need-add-bytes Inv-loop μ-loop
-add-bytes c = omega arith
-
-shared-slice-read-bytes : tie.Need-shared-slice-read-bytes Inv-loop μ-loop
-shared-slice-read-bytes c = omega arith
-
-array-write-bytes : tie.Need-array-write-bytes Inv-loop μ-loop
-array-write-bytes c = omega arith
-
-add-i : tie.Need-add-i Inv-loop μ-loop
-add-i c = omega arith
-
-loop-less : tie.Need-loop-less Inv-loop μ-loop
-loop-less c = omega arith
-
 loop-again : tie.Need-loop-again Inv-loop μ-loop
 loop-again c =
     let l = c .before .before .loop in
@@ -45,7 +24,8 @@ loop-again c =
       omega arith,
       simp length-set (omega arith),
       rw getD-drop at
-          (fill-turn _ (l .bytes) (drop (a .k * blockSize) (a .part .now)) (l .i) (omega arith) (simp length-drop (omega arith)) (l .inv .2)),
+          (fill-next _ (l .bytes) (drop (a .k * blockSize) (a .part .now)) (l .i) (omega arith)
+          (simp length-drop (omega arith)) (l .inv .2)),
     )
 
 returns : tie.Need-returns Inv-loop μ-loop
@@ -53,16 +33,5 @@ returns c = fill-end _ _ _ (c .before .loop .i) blockSize refl (omega arith) (c 
 
 pub load-block-spec : {M : Type 1} → statement M
 load-block-spec =
-    tie.close
-    (tie.spec
-    Inv-loop
-    μ-loop
-    mul-at
-    loop-holds
-    add-bytes
-    shared-slice-read-bytes
-    array-write-bytes
-    add-i
-    loop-less
-    loop-again
-    returns)
+    tie.close (tie.spec Inv-loop μ-loop (λ c. omega arith) (λ c. (omega arith, refl, refl)) (λ c. omega arith)
+    (λ c. omega arith) (λ c. omega arith) (λ c. omega arith) (λ c. omega arith) loop-again returns)

@@ -11,8 +11,5 @@ mul-result c = omega (arith, mul-le-mul (c .pre .1) (c .pre .0))
 mul-result-2 : tie.Need-mul-result-2
 mul-result-2 c = omega (arith, mul-le-mul (c .pre .1) (c .pre .0))
 
-returns : tie.Need-returns
-returns c = search needs
-
 pub start-spec : {M : Type 1} → statement M
-start-spec = tie.close (tie.spec mul-result mul-result-2 returns)
+start-spec = tie.close (tie.spec mul-result mul-result-2 (search needs))

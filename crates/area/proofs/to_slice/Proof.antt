@@ -4,19 +4,12 @@ use native.Mathlib.Omega.{arith}
 use borrow.Author.Needs.{needs}
 use Rattle.area.proofs.Parts.{alone-stored}
 use Rattle.area.proofs.to_slice.Statement.{statement}
-use Rattle.area.proofs.to_slice.Reads as reads
-use Rattle.area.proofs.to_slice.Lts as lts
-use Rattle.area.proofs.store_block.Reads as store-block-reads
 use Rattle.area.proofs.to_slice.Tie as tie
 
-store-block-requires : tie.Need-store-block-requires
-store-block-requires c κs = search needs
-
-same-length : tie.Need-same-length
-same-length c = search needs
-
 returns : tie.Need-returns
-returns c = c .before .before .store-block .ensures ∙ alone-stored _ _ (c .before .before .before .before .before .pre) (omega arith)
+returns c =
+    c .before .before .store-block .ensures
+    ∙ alone-stored _ _ (c .before .before .before .before .before .pre) (omega arith)
 
 pub to-slice-spec : {M : Type 1} → statement M
-to-slice-spec = tie.close (tie.spec store-block-requires same-length returns)
+to-slice-spec = tie.close (tie.spec (search needs) (search needs) returns)

@@ -2,7 +2,7 @@
 use borrow.Author.Tests.{lt-ltb, le-ltb}
 use borrow.Author.Needs.{needs}
 use Rattle.commands.specs.Commands.{commandOf}
-use Rattle.commands.proofs.Spoken.{pass-speaks}
+use Rattle.commands.proofs.Decoding.{one-pass-decodes}
 use Rattle.commands.proofs.parse.Statement.{statement}
 use Rattle.commands.proofs.parse.Tie as tie
 
@@ -10,19 +10,13 @@ returns : tie.Need-returns
 unfolding commandOf
 returns c = rw (lt-ltb _ _ (c .if1 .taken))
 
-scan-line-requires : tie.Need-scan-line-requires
-scan-line-requires c κs = search needs
-
-end-word-requires : tie.Need-end-word-requires
-end-word-requires c κs = search needs
-
-decode-requires : tie.Need-decode-requires
-decode-requires c κs = search needs
-
 returns-2 : tie.Need-returns-2
 unfolding commandOf
-returns-2 c = rw (le-ltb _ _ (c .before .before .before .if1 .left), c .decode .ensures, c .before .end-word .ensures, c .before .before .scan-line .ensures .0, pass-speaks (c .before .before .before .before .before .args .line .now))
+returns-2 c =
+    let scanned = c .before .before in
+    let short = le-ltb _ _ (scanned .before .if1 .left) in
+    let decodes = one-pass-decodes (scanned .before .before .before .args .line .now) in
+    rw (short, c .decode .ensures, c .before .end-word .ensures, scanned .scan-line .ensures .0, decodes)
 
 pub parse-spec : {M : Type 1} → statement M
-parse-spec =
-    tie.close (tie.spec returns scan-line-requires end-word-requires decode-requires returns-2)
+parse-spec = tie.close (tie.spec returns (search needs) (search needs) (search needs) returns-2)

@@ -3,14 +3,8 @@ use borrow.Author.Needs.{needs}
 use Rattle.exports.proofs.cabinet_assemble.Statement.{statement}
 use Rattle.exports.proofs.cabinet_assemble.Tie as tie
 
-assemble-requires : tie.Need-assemble-requires
-assemble-requires c κs = search needs
-
-flat-answer-requires : tie.Need-flat-answer-requires
-flat-answer-requires c κs = search needs
-
 returns : tie.Need-returns
 returns c = rw (c .flat-answer .ensures, c .before .assemble .ensures)
 
 pub cabinet-assemble-spec : {M : Type 1} → statement M
-cabinet-assemble-spec = tie.close (tie.spec assemble-requires flat-answer-requires returns)
+cabinet-assemble-spec = tie.close (tie.spec (search needs) (search needs) returns)

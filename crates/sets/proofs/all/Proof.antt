@@ -6,9 +6,6 @@ use Rattle.sets.specs.Sets.{singleton, all}
 use Rattle.sets.proofs.all.Statement.{statement}
 use Rattle.sets.proofs.all.Tie as tie
 
-singleton-requires : tie.Need-singleton-requires
-singleton-requires c κs = search needs
-
 sub-result : tie.Need-sub-result
 unfolding singleton
 sub-result c = rw (c .singleton .ensures) (pow-pos (c .before .before .args .n))
@@ -22,4 +19,4 @@ unfolding all
 returns-2 c = rw (le-antisymm (c .before .pre) (c .if1 .left))
 
 pub all-spec : {M : Type 1} → statement M
-all-spec = tie.close (tie.spec singleton-requires sub-result returns returns-2)
+all-spec = tie.close (tie.spec (search needs) sub-result returns returns-2)

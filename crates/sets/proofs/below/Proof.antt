@@ -7,12 +7,6 @@ use Rattle.sets.proofs.Bounds.{below-shift, below-pow}
 use Rattle.sets.proofs.below.Statement.{statement}
 use Rattle.sets.proofs.below.Tie as tie
 
-cast-result : tie.Need-cast-result
-cast-result c = search needs
-
-shr-result : tie.Need-shr-result
-shr-result c = search needs
-
 returns : tie.Need-returns
 returns c = below-shift _ _
 
@@ -20,4 +14,4 @@ returns-2 : tie.Need-returns-2
 returns-2 c = sym (below-pow _ _ .1 (lt-of-lt-of-le (c .before .fits .s .fits) (pow-mono (c .if1 .left))))
 
 pub below-spec : {M : Type 1} → statement M
-below-spec = tie.close (tie.spec cast-result shr-result returns returns-2)
+below-spec = tie.close (tie.spec (search needs) (search needs) returns returns-2)

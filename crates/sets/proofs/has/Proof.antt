@@ -7,12 +7,6 @@ use Rattle.sets.proofs.Membership.{has-above}
 use Rattle.sets.proofs.has.Statement.{statement}
 use Rattle.sets.proofs.has.Tie as tie
 
-cast-result : tie.Need-cast-result
-cast-result c = search needs
-
-shr-result : tie.Need-shr-result
-shr-result c = search needs
-
 returns : tie.Need-returns
 unfolding has
 returns c = rw (and-mask _ 1)
@@ -21,4 +15,4 @@ returns-2 : tie.Need-returns-2
 returns-2 c = sym (has-above _ _ _ (c .before .fits .s .fits) (c .if1 .left))
 
 pub has-spec : {M : Type 1} → statement M
-has-spec = tie.close (tie.spec cast-result shr-result returns returns-2)
+has-spec = tie.close (tie.spec (search needs) (search needs) returns returns-2)

@@ -8,9 +8,6 @@ use Rattle.sets.proofs.LowestMember.{trailing-lowest}
 use Rattle.sets.proofs.lowest.Statement.{statement}
 use Rattle.sets.proofs.lowest.Tie as tie
 
-wide-requires : tie.Need-wide-requires
-wide-requires c κs = search needs
-
 returns : tie.Need-returns
 unfolding lowest trailingZeros
 returns c = rw (c .if1 .taken)
@@ -20,4 +17,4 @@ returns-2 c =
     c .wide .ensures ∙ trailing-lowest _ _ (c .before .before .fits .s .fits) (pos-of-ne-zero (c .before .if1 .left))
 
 pub lowest-spec : {M : Type 1} → statement M
-lowest-spec = tie.close (tie.spec wide-requires returns returns-2)
+lowest-spec = tie.close (tie.spec (search needs) returns returns-2)

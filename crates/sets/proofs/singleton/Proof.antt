@@ -6,15 +6,9 @@ use Rattle.sets.specs.Sets.{singleton}
 use Rattle.sets.proofs.singleton.Statement.{statement}
 use Rattle.sets.proofs.singleton.Tie as tie
 
-cast-result : tie.Need-cast-result
-cast-result c = search needs
-
-shl-result : tie.Need-shl-result
-shl-result c = search needs
-
 returns : tie.Need-returns
 unfolding singleton
 returns c = rw one-mul (mod-eq-of-lt (pow-lt (c .pre)))
 
 pub singleton-spec : {M : Type 1} → statement M
-singleton-spec = tie.close (tie.spec cast-result shl-result returns)
+singleton-spec = tie.close (tie.spec (search needs) (search needs) returns)

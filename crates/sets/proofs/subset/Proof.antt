@@ -4,12 +4,9 @@ use Rattle.sets.specs.Sets.{subset}
 use Rattle.sets.proofs.subset.Statement.{statement}
 use Rattle.sets.proofs.subset.Tie as tie
 
-intersection-requires : tie.Need-intersection-requires
-intersection-requires c κs = search needs
-
 returns : tie.Need-returns
 unfolding subset
 returns c = rw (c .intersection .ensures)
 
 pub subset-spec : {M : Type 1} → statement M
-subset-spec = tie.close (tie.spec intersection-requires returns)
+subset-spec = tie.close (tie.spec (search needs) returns)

@@ -3,8 +3,5 @@ use mathlib.Core.Path.{refl}
 use Rattle.shell.proofs.at_line_start.Statement.{statement}
 use Rattle.shell.proofs.at_line_start.Tie as tie
 
-returns : tie.Need-returns
-returns c = refl
-
 pub at-line-start-spec : {M : Type 1} → statement M
-at-line-start-spec = tie.close (tie.spec returns)
+at-line-start-spec = tie.close (tie.spec (λ c. refl))

@@ -1,6 +1,6 @@
 -- `label::rules::outside` meets its contract. Assumes nothing.
 use mathlib.Core.Path.{refl}
-use Rattle.label.specs.Refusals.{outside}
+use Rattle.label.specs.Rules.{outside}
 use Rattle.label.proofs.rules.outside.Statement.{statement}
 use Rattle.label.proofs.rules.outside.Tie as tie
 

@@ -1,15 +1,13 @@
 -- `label::writer::present` meets its contract. Assumes nothing.
 use mathlib.Core.Path.{sym}
+use native.Mathlib.Omega.{arith}
 use borrow.Author.Needs.{needs}
 use Rattle.label.proofs.Fields.{not-zero}
 use Rattle.label.proofs.writer.present.Statement.{statement}
 use Rattle.label.proofs.writer.present.Tie as tie
 
-returns : tie.Need-returns
-returns c = search needs
-
 returns-2 : tie.Need-returns-2
-returns-2 c = sym (not-zero 1 _ (c .if1 .left) .0)
+returns-2 c = (sym (not-zero 1 _ (c .if1 .left) .0), omega arith)
 
 pub present-spec : {M : Type 1} → statement M
-present-spec = tie.close (tie.spec returns returns-2)
+present-spec = tie.close (tie.spec (λ c. search needs) returns-2)

@@ -13,18 +13,11 @@ returns : tie.Need-returns
 unfolding candidate
 returns c = rw (c .if1 .taken)
 
-subset-requires : tie.Need-subset-requires
-subset-requires c κs = search needs
-
 returns-2 : tie.Need-returns-2
 unfolding candidate
-returns-2 c = let outside = sym (c .before .subset .ensures) ∙ not-true _ (c .if2 .taken) in rw outside (sym (and-false (ltb 0 (c .before .before .before .args .x))))
-
-all-back-requires : tie.Need-all-back-requires
-all-back-requires c κs = search needs
-
-some-propose-requires : tie.Need-some-propose-requires
-some-propose-requires c κs = search needs
+returns-2 c =
+    let outside = sym (c .before .subset .ensures) ∙ not-true _ (c .if2 .taken) in
+    rw outside (sym (and-false (ltb 0 (c .before .before .before .args .x))))
 
 returns-3 : tie.Need-returns-3
 unfolding candidate
@@ -37,5 +30,4 @@ returns-3 c =
 
 pub candidate-spec : {M : Type 1} → statement M
 candidate-spec =
-    tie.close
-    (tie.spec returns subset-requires returns-2 all-back-requires some-propose-requires returns-3)
+    tie.close (tie.spec returns (search needs) returns-2 (search needs) (search needs) returns-3)

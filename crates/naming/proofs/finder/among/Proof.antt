@@ -10,52 +10,25 @@ use Rattle.naming.proofs.finder.among.Statement.{statement}
 use Rattle.naming.proofs.finder.among.Tie as tie
 
 abbrev Inv-loop : tie.InvT-loop
-Inv-loop stage disks online labels found₀ d₀ found d = (d ≤ disks) × (foundOf found ≡ among (stageOf stage) disks online labels d)
+Inv-loop stage disks online labels found₀ d₀ found d =
+    (d ≤ disks) × (foundOf found ≡ among (stageOf stage) disks online labels d)
 
 abbrev μ-loop : tie.MeasureT-loop
 μ-loop stage disks online labels found₀ d₀ found d = disks - d
 
-loop-holds : tie.Need-loop-holds Inv-loop μ-loop
-unfolding among
-loop-holds c = (omega arith, refl)
-
-mul-tried : tie.Need-mul-tried Inv-loop μ-loop
-mul-tried c = search needs
-
-array-copy-out-tried : tie.Need-array-copy-out-tried Inv-loop μ-loop
-array-copy-out-tried c = search needs
-
-tried-requires : tie.Need-tried-requires Inv-loop μ-loop
-tried-requires c κs = search needs
-
-and-tried-requires : tie.Need-and-tried-requires Inv-loop μ-loop
-and-tried-requires c κs = search needs
-
-add-d : tie.Need-add-d Inv-loop μ-loop
-add-d c = omega arith
-
-loop-less : tie.Need-loop-less Inv-loop μ-loop
-loop-less c = omega arith
-
 loop-again : tie.Need-loop-again Inv-loop μ-loop
 unfolding among
-loop-again c = (omega arith, rw (add-one, c .and-tried .ensures, c .before .tried .ensures, c .before .before .before .before .loop .inv .1))
+loop-again c = (
+  omega arith,
+  rw (add-one, c .and-tried .ensures, c .before .tried .ensures, c .before .before .before .before .loop .inv .1),
+)
 
 returns : tie.Need-returns Inv-loop μ-loop
-returns c = let e : c .before .loop .d ≡ c .before .before .args .disks = omega arith in rw e at (c .before .loop .inv .1)
+returns c =
+    let e : c .before .loop .d ≡ c .before .before .args .disks = omega arith in rw e at (c .before .loop .inv .1)
 
 pub among-spec : {M : Type 1} → statement M
+unfolding among
 among-spec =
-    tie.close
-    (tie.spec
-    Inv-loop
-    μ-loop
-    loop-holds
-    mul-tried
-    array-copy-out-tried
-    tried-requires
-    and-tried-requires
-    add-d
-    loop-less
-    loop-again
-    returns)
+    tie.close (tie.spec Inv-loop μ-loop (λ c. (omega arith, refl)) (search needs) (search needs) (search needs)
+    (search needs) (λ c. omega arith) (λ c. omega arith) loop-again returns)

@@ -7,23 +7,14 @@ use Rattle.naming.proofs.Tried.{found-again}
 use Rattle.naming.proofs.finder.and_tried.Statement.{statement}
 use Rattle.naming.proofs.finder.and_tried.Tie as tie
 
-is-one-requires : tie.Need-is-one-requires
-is-one-requires c κs = search needs
-
 returns : tie.Need-returns
 returns c =
     let a = c .before .before .args in
-    found-again (foundOf (a .found)) (a .x) (candidate (stageOf (a .stage)) (a .disks) (a .online) (a .labels) (a .x)) (sym (c .before .is-one .ensures) ∙ c .if1 .taken)
-
-candidate-requires : tie.Need-candidate-requires
-candidate-requires c κs = search needs
-
-another-requires : tie.Need-another-requires
-another-requires c κs = search needs
+    found-again (foundOf (a .found)) (a .x) (candidate (stageOf (a .stage)) (a .disks) (a .online) (a .labels) (a .x))
+    (sym (c .before .is-one .ensures) ∙ c .if1 .taken)
 
 returns-2 : tie.Need-returns-2
 returns-2 c = rw (c .another .ensures, c .before .candidate .ensures)
 
 pub and-tried-spec : {M : Type 1} → statement M
-and-tried-spec =
-    tie.close (tie.spec is-one-requires returns candidate-requires another-requires returns-2)
+and-tried-spec = tie.close (tie.spec (search needs) returns (search needs) (search needs) returns-2)

@@ -5,43 +5,25 @@ use Rattle.protocol.specs.Finder.{another}
 use Rattle.naming.proofs.finder.another.Statement.{statement}
 use Rattle.naming.proofs.finder.another.Tie as tie
 
-enum-told : tie.Need-enum-told
-enum-told c = search needs
-
-enum-known-found : tie.Need-enum-known-found
-enum-known-found c = search needs
-
-enum-told-2 : tie.Need-enum-told-2
-enum-told-2 c = search needs
-
 returns : tie.Need-returns
 unfolding another
 returns c = rw (c .before .before .if1 .taken, c .enum-told .given .1)
 
 returns-2 : tie.Need-returns-2
 unfolding another
-returns-2 c = rw (c .before .before .before .before .if1 .taken, c .before .before .found .given .1, eq-eqb _ _ (c .if2 .taken))
+returns-2 c =
+    rw (c .before .before .before .before .if1 .taken, c .before .before .found .given .1, eq-eqb _ _ (c .if2 .taken))
 
 returns-3 : tie.Need-returns-3
 unfolding another
-returns-3 c = rw (c .before .before .before .before .if1 .taken, c .before .before .found .given .1, ne-eqb _ _ (c .if2 .left))
+returns-3 c =
+    rw (c .before .before .before .before .if1 .taken, c .before .before .found .given .1, ne-eqb _ _ (c .if2 .left))
 
 returns-4 : tie.Need-returns-4
 unfolding another
 returns-4 c = rw (c .before .before .if1 .taken, c .enum-told2 .given .1)
 
-returns-5 : tie.Need-returns-5
-returns-5 c = search needs
-
 pub another-spec : {M : Type 1} → statement M
 another-spec =
-    tie.close
-    (tie.spec
-    enum-told
-    enum-known-found
-    enum-told-2
-    returns
-    returns-2
-    returns-3
-    returns-4
-    returns-5)
+    tie.close (tie.spec (λ c. search needs) (λ c. search needs) (λ c. search needs) returns returns-2 returns-3
+    returns-4 (λ c. search needs))

@@ -7,21 +7,6 @@ use Rattle.protocol.proofs.Finder.{finds-named}
 use Rattle.naming.proofs.finder.named.Statement.{statement}
 use Rattle.naming.proofs.finder.named.Tie as tie
 
-among-requires : tie.Need-among-requires
-among-requires c κs = search needs
-
-among-requires-2 : tie.Need-among-requires-2
-among-requires-2 c κs = search needs
-
-among-requires-3 : tie.Need-among-requires-3
-among-requires-3 c κs = search needs
-
-or-later-requires : tie.Need-or-later-requires
-or-later-requires c κs = search needs
-
-or-later-requires-2 : tie.Need-or-later-requires-2
-or-later-requires-2 c κs = search needs
-
 -- after the last stage there is nothing more to find
 last : (f : Found) → orLater f none ≡ f
 unfolding orLater
@@ -44,11 +29,4 @@ returns c =
 
 pub named-spec : {M : Type 1} → statement M
 named-spec =
-    tie.close
-    (tie.spec
-    among-requires
-    among-requires-2
-    among-requires-3
-    or-later-requires
-    or-later-requires-2
-    returns)
+    tie.close (tie.spec (search needs) (search needs) (search needs) (search needs) (search needs) returns)

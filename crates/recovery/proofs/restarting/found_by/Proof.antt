@@ -3,13 +3,10 @@ use mathlib.Core.Path.{sym, _∙_}
 use borrow.Author.Needs.{needs}
 use Rattle.sets.proofs.Tests.{clash}
 use Rattle.sets.proofs.Bounds.{below-pow}
-use Rattle.protocol.specs.Calls.{foundBy}
+use Rattle.protocol.specs.Naming.{foundBy}
 use Rattle.protocol.proofs.Soundness.{test-agrees}
 use Rattle.recovery.proofs.restarting.found_by.Statement.{statement}
 use Rattle.recovery.proofs.restarting.found_by.Tie as tie
-
-cast-named : tie.Need-cast-named
-cast-named c = search needs
 
 named-requires : tie.Need-named-requires
 named-requires c κs =
@@ -26,4 +23,4 @@ returns-2 : tie.Need-returns-2
 returns-2 c is = clash is (sym (c .before .pre) ∙ c .if1 .left)
 
 pub found-by-spec : {M : Type 1} → statement M
-found-by-spec = tie.close (tie.spec cast-named named-requires returns returns-2)
+found-by-spec = tie.close (tie.spec (search needs) named-requires returns returns-2)

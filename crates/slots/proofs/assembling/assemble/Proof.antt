@@ -5,21 +5,6 @@ use Rattle.slots.proofs.Found.{arguments-stop, refused-answer}
 use Rattle.slots.proofs.assembling.assemble.Statement.{statement}
 use Rattle.slots.proofs.assembling.assemble.Tie as tie
 
-arguments-refusal-requires : tie.Need-arguments-refusal-requires
-arguments-refusal-requires c κs = search needs
-
-from-slots-requires : tie.Need-from-slots-requires
-from-slots-requires c κs = search needs
-
-zero-requires : tie.Need-zero-requires
-zero-requires c κs = search needs
-
-without-stores-requires : tie.Need-without-stores-requires
-without-stores-requires c κs = search needs
-
-returns : tie.Need-returns
-returns c = search needs
-
 returns-2 : tie.Need-returns-2
 returns-2 c =
     let a = c .before .before .before .before .before .args in
@@ -30,11 +15,5 @@ returns-2 c =
 
 pub assemble-spec : {M : Type 1} → statement M
 assemble-spec =
-    tie.close
-    (tie.spec
-    arguments-refusal-requires
-    from-slots-requires
-    zero-requires
-    without-stores-requires
-    returns
-    returns-2)
+    tie.close (tie.spec (λ c κs. search needs) (λ c κs. search needs) (λ c κs. search needs)
+    (λ c κs. search needs) (λ c. search needs) returns-2)

@@ -1,10 +1,14 @@
 -- `slots::form::wrong_size` meets its contract. Assumes nothing.
+use lib.Dec.{lit<}
+use Rattle.label.specs.Bytes.{longestLabel}
+use Rattle.protocol.specs.Saving.{slotSize}
 use Rattle.slots.proofs.Refusing.{wrong-if}
 use Rattle.slots.proofs.form.wrong_size.Statement.{statement}
 use Rattle.slots.proofs.form.wrong_size.Tie as tie
 
 returns : tie.Need-returns
-returns c = wrong-if _ _
+unfolding longestLabel
+returns c = wrong-if slotSize (c .args .size) (c .args .disks) (lit< tt)
 
 pub wrong-size-spec : {M : Type 1} → statement M
 wrong-size-spec = tie.close (tie.spec returns)

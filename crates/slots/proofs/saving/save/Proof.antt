@@ -2,27 +2,15 @@
 use mathlib.Core.Path.{refl, sym, _∙_}
 use borrow.Author.Needs.{needs}
 use Rattle.protocol.specs.Saving.{saveOutcome}
-use Rattle.protocol.proofs.Passing.{refused, passed}
-use Rattle.slots.proofs.Written.{save-ready}
+use Rattle.protocol.proofs.Outcomes.{refused, passed}
+use Rattle.slots.proofs.Written.{save-passed}
 use Rattle.slots.proofs.saving.save.Statement.{statement}
 use Rattle.slots.proofs.saving.save.Tie as tie
-
-save-refusal-requires : tie.Need-save-refusal-requires
-save-refusal-requires c κs = search needs
 
 write-slots-requires : tie.Need-write-slots-requires
 write-slots-requires c κs =
     let a = c .before .before .before .before .args in
-    save-ready (a .s) (a .slots .now) (sym (c .before .before .save-refusal .ensures _ refl) ∙ c .before .if1 .taken)
-
-without-stores-requires : tie.Need-without-stores-requires
-without-stores-requires c κs = search needs
-
-without-stores-requires-2 : tie.Need-without-stores-requires-2
-without-stores-requires-2 c κs = search needs
-
-same-length : tie.Need-same-length
-same-length c = search needs
+    save-passed (a .s) (a .slots .now) (sym (c .before .before .save-refusal .ensures _ refl) ∙ c .before .if1 .taken)
 
 returns : tie.Need-returns
 unfolding saveOutcome
@@ -33,16 +21,11 @@ returns c area =
 
 returns-2 : tie.Need-returns-2
 unfolding saveOutcome
-returns-2 c area = refused _ _ _ _ _ (c .before .before .save-refusal .ensures _ refl) (c .before .if1 .left) (c .without-stores2 .ensures)
+returns-2 c area =
+    refused _ _ _ _ _ (c .before .before .save-refusal .ensures _ refl) (c .before .if1 .left)
+    (c .without-stores2 .ensures)
 
 pub save-spec : {M : Type 1} → statement M
 save-spec =
-    tie.close
-    (tie.spec
-    save-refusal-requires
-    write-slots-requires
-    without-stores-requires
-    without-stores-requires-2
-    same-length
-    returns
+    tie.close (tie.spec (search needs) write-slots-requires (search needs) (search needs) (search needs) returns
     returns-2)

@@ -3,8 +3,5 @@ use mathlib.Core.Path.{refl}
 use Rattle.state.proofs.answer.without_stores.Statement.{statement}
 use Rattle.state.proofs.answer.without_stores.Tie as tie
 
-returns : tie.Need-returns
-returns c = refl
-
 pub without-stores-spec : {M : Type 1} → statement M
-without-stores-spec = tie.close (tie.spec returns)
+without-stores-spec = tie.close (tie.spec (λ c. refl))

@@ -4,12 +4,9 @@ use Rattle.protocol.specs.States.{source}
 use Rattle.state.proofs.power.source.Statement.{statement}
 use Rattle.state.proofs.power.source.Tie as tie
 
-lowest-requires : tie.Need-lowest-requires
-lowest-requires c κs = search needs
-
 returns : tie.Need-returns
 unfolding source
 returns c = c .lowest .ensures
 
 pub source-spec : {M : Type 1} → statement M
-source-spec = tie.close (tie.spec lowest-requires returns)
+source-spec = tie.close (tie.spec (search needs) returns)

@@ -2,31 +2,12 @@
 use native.Mathlib.Omega.{arith}
 use borrow.Author.Needs.{needs}
 use Rattle.sets.proofs.Bounds.{below-with}
-use Rattle.protocol.proofs.Backing.{source-known}
+use Rattle.protocol.proofs.States.{source-known}
 use Rattle.protocol.proofs.Soundness.{live-known}
-use Rattle.tally.proofs.Fitting.{ready-fits}
-use Rattle.tally.proofs.Carrying.{carried}
+use Rattle.stores.proofs.Carrying.{sound-fits, carried}
 use Rattle.storage.proofs.JoinList.{join-ran, join-length}
 use Rattle.storage.proofs.joining.join_stores.Statement.{statement}
 use Rattle.storage.proofs.joining.join_stores.Tie as tie
-
-size-of-requires : tie.Need-size-of-requires
-size-of-requires c κs = search needs
-
-current-requires : tie.Need-current-requires
-current-requires c κs = search needs
-
-live-requires : tie.Need-live-requires
-live-requires c κs = search needs
-
-singleton-requires : tie.Need-singleton-requires
-singleton-requires c κs = search needs
-
-union-requires : tie.Need-union-requires
-union-requires c κs = search needs
-
-live-length-requires : tie.Need-live-length-requires
-live-length-requires c κs = search needs
 
 add-stores : tie.Need-add-stores
 add-stores c =
@@ -34,26 +15,17 @@ add-stores c =
     let start = sized .before .before in
     rw (sized .size-of .ensures) (omega (arith, start .pre .0 .fit .range .blocks))
 
-move-length-requires : tie.Need-move-length-requires
-move-length-requires c κs = search needs
-
 add-stores-2 : tie.Need-add-stores-2
 add-stores-2 c =
     let sized = c .before .before .before .before .before .before .before in
     let start = sized .before .before in
     rw (sized .size-of .ensures) (omega (arith, start .pre .0 .fit .range .blocks))
 
-started-requires : tie.Need-started-requires
-started-requires c κs = search needs
-
 move-to-live-requires : tie.Need-move-to-live-requires
 move-to-live-requires c κs =
     let sized = c .before .before .before .before .before .before .before .before in
     let start = sized .before .before in
     rw (sized .size-of .ensures) (start .pre .0 .fit .range .disks)
-
-source-requires : tie.Need-source-requires
-source-requires c κs = search needs
 
 copy-disk-requires : tie.Need-copy-disk-requires
 copy-disk-requires c κs =
@@ -63,19 +35,14 @@ copy-disk-requires c κs =
     let s = start .args .s in
     let fit = start .pre .0 .fit in
     rw (sized .size-of .ensures, c .source .ensures, at-live .live .ensures)
-    (ready-fits (start .pre .0), source-known (s .disks) _ (start .pre .1) (live-known s fit), start .pre .2)
+    (sound-fits (start .pre .0), source-known (s .disks) _ (start .pre .1) (live-known s fit), start .pre .2)
 
 move-to-requires : tie.Need-move-to-requires
 move-to-requires c κs =
-    let sized = c .before .before .before .before .before .before .before .before .before .before .before .before .before .before in
+    let sized =
+    c .before .before .before .before .before .before .before .before .before .before .before .before .before .before in
     let start = sized .before .before in
     rw (sized .size-of .ensures) (start .pre .0 .fit .range .disks)
-
-ended-requires : tie.Need-ended-requires
-ended-requires c κs = search needs
-
-same-length : tie.Need-same-length
-same-length c = search needs
 
 returns : tie.Need-returns
 returns c output =
@@ -101,9 +68,11 @@ returns c output =
     let current = at-current .current .ensures in
     let new = at-new .singleton .ensures in
     let joined = at-joined .union .ensures in
-    let moved = rw (size, live, current, begun .started .ensures) at (at-move .move-to-live .ensures (s .blocks) area) in
+    let moved =
+    rw (size, live, current, begun .started .ensures) at (at-move .move-to-live .ensures (s .blocks) area) in
     let filled = rw (size, at-source .source .ensures, live) at (at-copies .copy-disk .ensures) in
-    let last = rw (size, joined, live, new) at (at-last .move-to .ensures (s .blocks) (at-copies .copy-disk .last .1 .0)) in
+    let last =
+    rw (size, joined, live, new) at (at-last .move-to .ensures (s .blocks) (at-copies .copy-disk .last .1 .0)) in
     let moves = rw (live, current) at (at-length .live-length .ensures .0 (s .disks) (rw live (live-known s fit))) in
     let known = below-with _ d (s .disks) (live-known s fit) (start .pre .2) in
     let ends = rw (joined, live, new) at (at-end .move-length .ensures .0 (s .disks) (rw (joined, live, new) known)) in
@@ -113,22 +82,6 @@ returns c output =
 
 pub join-stores-spec : {M : Type 1} → statement M
 join-stores-spec =
-    tie.close
-    (tie.spec
-    size-of-requires
-    current-requires
-    live-requires
-    singleton-requires
-    union-requires
-    live-length-requires
-    add-stores
-    move-length-requires
-    add-stores-2
-    started-requires
-    move-to-live-requires
-    source-requires
-    copy-disk-requires
-    move-to-requires
-    ended-requires
-    same-length
-    returns)
+    tie.close (tie.spec (search needs) (search needs) (search needs) (search needs) (search needs)
+    (search needs) add-stores (search needs) add-stores-2 (search needs) move-to-live-requires (search needs)
+    copy-disk-requires move-to-requires (search needs) (search needs) returns)

@@ -5,15 +5,9 @@ use Rattle.stores.proofs.Runs.{in-sequence}
 use Rattle.storage.proofs.moves.move_to.Statement.{statement}
 use Rattle.storage.proofs.moves.move_to.Tie as tie
 
-store-labels-requires : tie.Need-store-labels-requires
-store-labels-requires c κs = search needs
-
-store-labels-requires-2 : tie.Need-store-labels-requires-2
-store-labels-requires-2 c κs = search needs
-
 returns : tie.Need-returns
 unfolding move proposals commits
 returns c b area = in-sequence b _ _ _ (c .before .store-labels .ensures b area) (c .store-labels2 .ensures b area)
 
 pub move-to-spec : {M : Type 1} → statement M
-move-to-spec = tie.close (tie.spec store-labels-requires store-labels-requires-2 returns)
+move-to-spec = tie.close (tie.spec (search needs) (search needs) returns)

@@ -2,20 +2,17 @@
 use borrow.Author.Tests.{eq-eqb, ne-eqb}
 use borrow.Author.Needs.{needs}
 use Rattle.protocol.specs.Lists.{moveToLive}
-use Rattle.stores.specs.Runs.{steps}
+use Rattle.stores.specs.Runs.{runAll}
 use Rattle.storage.proofs.moves.move_to_live.Statement.{statement}
 use Rattle.storage.proofs.moves.move_to_live.Tie as tie
 
 returns : tie.Need-returns
-unfolding moveToLive steps
+unfolding moveToLive runAll
 returns c b area = rw (eq-eqb _ _ (c .if1 .taken))
-
-move-to-requires : tie.Need-move-to-requires
-move-to-requires c κs = search needs
 
 returns-2 : tie.Need-returns-2
 unfolding moveToLive
 returns-2 c b area = rw (ne-eqb _ _ (c .before .if1 .left)) (c .move-to .ensures b area)
 
 pub move-to-live-spec : {M : Type 1} → statement M
-move-to-live-spec = tie.close (tie.spec returns move-to-requires returns-2)
+move-to-live-spec = tie.close (tie.spec returns (search needs) returns-2)

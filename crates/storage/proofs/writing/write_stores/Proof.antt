@@ -3,44 +3,15 @@ use native.Mathlib.Omega.{arith}
 use borrow.Author.Needs.{needs}
 use Rattle.protocol.specs.Geometry.{regionOf}
 use Rattle.protocol.proofs.Soundness.{live-known}
-use Rattle.tally.proofs.Fitting.{ready-fits}
-use Rattle.tally.proofs.Carrying.{carried}
+use Rattle.stores.proofs.Carrying.{sound-fits, carried}
 use Rattle.storage.proofs.WriteList.{write-ran, write-length}
 use Rattle.storage.proofs.writing.write_stores.Statement.{statement}
 use Rattle.storage.proofs.writing.write_stores.Tie as tie
 
-size-of-requires : tie.Need-size-of-requires
-size-of-requires c κs = search needs
-
-current-requires : tie.Need-current-requires
-current-requires c κs = search needs
-
-live-requires : tie.Need-live-requires
-live-requires c κs = search needs
-
 dirty-disks-requires : tie.Need-dirty-disks-requires
-dirty-disks-requires c κs = rw (c .before .before .size-of .ensures) (c .before .before .before .before .before .before .pre .0 .fit .range .disks)
-
-difference-requires : tie.Need-difference-requires
-difference-requires c κs = search needs
-
-live-length-requires : tie.Need-live-length-requires
-live-length-requires c κs = search needs
-
-count-requires : tie.Need-count-requires
-count-requires c κs = search needs
-
-add-stores : tie.Need-add-stores
-add-stores c = search needs
-
-count-requires-2 : tie.Need-count-requires-2
-count-requires-2 c κs = search needs
-
-add-stores-2 : tie.Need-add-stores-2
-add-stores-2 c = search needs
-
-started-requires : tie.Need-started-requires
-started-requires c κs = search needs
+dirty-disks-requires c κs =
+    rw (c .before .before .size-of .ensures)
+    (c .before .before .before .before .before .before .pre .0 .fit .range .disks)
 
 move-to-live-requires : tie.Need-move-to-live-requires
 move-to-live-requires c κs =
@@ -51,23 +22,16 @@ move-to-live-requires c κs =
 store-labels-requires : tie.Need-store-labels-requires
 store-labels-requires c κs =
     let sized = c .before .before .before .before .before .before .before .before .before in
-    let start = sized .before .before .before .before in
-    (rw (sized .size-of .ensures) (start .pre .0 .fit .range .disks), omega (arith, start .pre .0 .fit .range .blocks, start .pre .1))
-
-from-slice-requires : tie.Need-from-slice-requires
-from-slice-requires c κs = search needs
+    let start = sized .before .before .before .before in (
+      rw (sized .size-of .ensures) (start .pre .0 .fit .range .disks),
+      omega (arith, start .pre .0 .fit .range .blocks, start .pre .1),
+    )
 
 store-blocks-requires : tie.Need-store-blocks-requires
 store-blocks-requires c κs =
     let sized = c .before .before .before .before .before .before .before .before .before .before .before .before in
     let start = sized .before .before .before .before in
-    rw (sized .size-of .ensures) (ready-fits (start .pre .0), start .pre .1)
-
-ended-requires : tie.Need-ended-requires
-ended-requires c κs = search needs
-
-same-length : tie.Need-same-length
-same-length c = search needs
+    rw (sized .size-of .ensures) (sound-fits (start .pre .0), start .pre .1)
 
 returns : tie.Need-returns
 unfolding regionOf
@@ -96,35 +60,21 @@ returns c output =
     let current = at-current .current .ensures in
     let unmarked = at-unmarked .difference .ensures in
     let dirty = at-dirty .dirty-disks .ensures in
-    let moved = rw (size, live, current, begun .started .ensures) at (at-move .move-to-live .ensures (s .blocks) area) in
+    let moved =
+    rw (size, live, current, begun .started .ensures) at (at-move .move-to-live .ensures (s .blocks) area) in
     let marked = rw (size, unmarked, live, dirty, size) at (at-labels .store-labels .ensures (s .blocks) area) in
     let stored = rw (size, live, at-block .from-slice .ensures) at (at-blocks .store-blocks .ensures) in
     let moves = rw (live, current) at (at-length .live-length .ensures .0 (s .disks) (rw live (live-known s fit))) in
-    let marks = rw (unmarked, live, dirty, size) at (at-count .count .ensures .0) in
-    let blocks = rw live at (at-count2 .count2 .ensures .0) in
+    let marks = rw (unmarked, live, dirty, size) at (at-count .size .ensures .0) in
+    let blocks = rw live at (at-count2 .size2 .ensures .0) in
     rw (c .ended .ensures, live)
-    (carried s _ _ (start .args .budget) _ area _ output (write-ran s k bytes (fit .range .disks) _ moved marked stored) _
+    (carried s _ _ (start .args .budget) _ area _ output
+    (write-ran s k bytes (fit .range .disks) _ moved marked stored) _
     (omega (arith, moves, marks, blocks, write-length s k bytes fit)))
 
 pub write-stores-spec : {M : Type 1} → statement M
 write-stores-spec =
-    tie.close
-    (tie.spec
-    size-of-requires
-    current-requires
-    live-requires
-    dirty-disks-requires
-    difference-requires
-    live-length-requires
-    count-requires
-    add-stores
-    count-requires-2
-    add-stores-2
-    started-requires
-    move-to-live-requires
-    store-labels-requires
-    from-slice-requires
-    store-blocks-requires
-    ended-requires
-    same-length
-    returns)
+    tie.close (tie.spec (search needs) (search needs) (search needs) dirty-disks-requires (search needs)
+    (search needs) (search needs) (search needs) (search needs) (search needs) (search needs)
+    move-to-live-requires store-labels-requires (search needs) store-blocks-requires (search needs)
+    (search needs) returns)

@@ -12,19 +12,14 @@ load-requires c κs =
     let pre = c .before .before .pre in
     in-area (a .size .disks) (a .size .blocks) (a .from) (a .k) (a .area .now) (pre .0) (pre .1) (pre .3)
 
-store-blocks-requires : tie.Need-store-blocks-requires
-store-blocks-requires c κs = search needs
-
-same-length : tie.Need-same-length
-same-length c = search needs
-
 returns : tie.Need-returns
 returns c =
     let start = c .before .before .before .before .before .before .before in
     let a = start .args in
     let pre = start .pre in
     rw (← c .before .before .before .before .load .ensures) (c .before .before .store-blocks .ensures)
-    ∙ loaded-once (a .size .disks) (a .size .blocks) (a .from) (a .k) (a .set) (progress (a .run) (a .area .now)) (pre .1) (pre .3) (pre .2) (pre .0 .size)
+    ∙ loaded-once (a .size .disks) (a .size .blocks) (a .from) (a .k) (a .set) (progress (a .run) (a .area .now))
+    (pre .1) (pre .3) (pre .2) (pre .0 .size)
 
 pub copy-block-spec : {M : Type 1} → statement M
-copy-block-spec = tie.close (tie.spec load-requires store-blocks-requires same-length returns)
+copy-block-spec = tie.close (tie.spec load-requires (search needs) (search needs) returns)

@@ -5,13 +5,14 @@ use mathlib.Core.List.{List, [], _∷_}
 use Prim.Native.Nat.{ℕ, _-_, _≤_}
 use native.Mathlib.Omega.{arith}
 use borrow.Author.Tests.{not-true}
+use borrow.Author.Needs.{needs}
 use Rattle.sets.proofs.Tests.{and-parts, positive}
 use Rattle.protocol.specs.Loops.{ascending, forEach}
 use Rattle.protocol.proofs.Loops.{for-none}
 use Rattle.stores.specs.declared.Run.{Run}
-use Rattle.stores.specs.Runs.{progress, steps}
+use Rattle.stores.specs.Runs.{progress, runAll}
 use Rattle.stores.specs.Changes.{changeOn}
-use Rattle.stores.proofs.Runs.{one-turn, none-made}
+use Rattle.stores.proofs.Runs.{run-next, none-made}
 use Rattle.stores.proofs.Changed.{label-made}
 use Rattle.stores.proofs.labels.store_labels.Statement.{statement}
 use Rattle.stores.proofs.labels.store_labels.Tie as tie
@@ -20,45 +21,26 @@ abbrev Inv-loop : tie.InvT-loop
 Inv-loop n set change labels₀ left₀ d₀ labels left d =
     (d ≤ n)
     × ((b : ℕ) (area : List ℕ) → progress (record { labels = labels; left = left }) area
-    ≡ steps b (forEach d set (λ e. changeOn change e ∷ [])) (progress (record { labels = labels₀; left = left₀ }) area))
+    ≡ runAll b (forEach d set (λ e. changeOn change e ∷ []))
+    (progress (record { labels = labels₀; left = left₀ }) area))
 
 abbrev μ-loop : tie.MeasureT-loop
 μ-loop n set change labels₀ left₀ d₀ labels left d = n - d
 
 returns : tie.Need-returns Inv-loop μ-loop
-unfolding steps
+unfolding runAll
 returns c = λ b area. rw (c .if1 .taken, for-none)
-
-loop-holds : tie.Need-loop-holds Inv-loop μ-loop
-unfolding forEach ascending steps
-loop-holds c = (omega arith, λ b area. refl)
-
-has-requires : tie.Need-has-requires Inv-loop μ-loop
-has-requires c κs = tt
-
-mul-changed : tie.Need-mul-changed Inv-loop μ-loop
-mul-changed c = omega arith
-
-array-copy-out-changed : tie.Need-array-copy-out-changed Inv-loop μ-loop
-array-copy-out-changed c = omega arith
 
 changed-requires : tie.Need-changed-requires Inv-loop μ-loop
 changed-requires c κs = c .before .before .before .before .before .before .before .pre .1
 
-mul-labels : tie.Need-mul-labels Inv-loop μ-loop
-mul-labels c = omega arith
-
-array-set-from-labels : tie.Need-array-set-from-labels Inv-loop μ-loop
-array-set-from-labels c = omega arith
-
 sub-left : tie.Need-sub-left Inv-loop μ-loop
-sub-left c = omega (arith, positive (c .before .before .before .before .before .loop .left) (not-true _ (and-parts _ _ (c .before .before .if2 .taken) .0)))
-
-add-d : tie.Need-add-d Inv-loop μ-loop
-add-d c = omega arith
-
-loop-less : tie.Need-loop-less Inv-loop μ-loop
-loop-less c = omega arith
+sub-left c =
+    omega (
+      arith,
+      positive (c .before .before .before .before .before .loop .left)
+          (not-true _ (and-parts _ _ (c .before .before .if2 .taken) .0)),
+    )
 
 loop-again : tie.Need-loop-again Inv-loop μ-loop
 unfolding forEach
@@ -68,32 +50,23 @@ loop-again c =
     let asked = c .before .has .ensures in
     let run : Run = record { labels = at .labels; left = at .left } in (
       omega arith,
-      λ b area. one-turn b _ _ _ (at .inv .1 b area)
+      λ b area. run-next b _ _ _ (at .inv .1 b area)
           (⊎-elim
-          (λ w. rw (w .3, w .4, w .2 .ensures) (label-made b (a .set) (at .d) (a .change) run area (rw asked at (w .0 .taken))))
-          (λ w. rw (w .1, w .2) (none-made b (a .set) (at .d) (changeOn (a .change) (at .d)) (progress run area) (rw asked at (w .0 .left))))
+          (λ w. rw (w .3, w .4, w .2 .ensures)
+          (label-made b (a .set) (at .d) (a .change) run area (rw asked at (w .0 .taken))))
+          (λ w. rw (w .1, w .2)
+          (none-made b (a .set) (at .d) (changeOn (a .change) (at .d)) (progress run area) (rw asked at (w .0 .left))))
           (c .if2 .came)),
     )
 
 returns-2 : tie.Need-returns-2 Inv-loop μ-loop
-returns-2 c = λ b area. let e : c .before .loop .d ≡ c .before .before .before .before .args .n = omega arith in rw e at (c .before .loop .inv .1 b area)
+returns-2 c b area =
+    let e : c .before .loop .d ≡ c .before .before .before .before .args .n = omega arith in
+    rw e at (c .before .loop .inv .1 b area)
 
 pub store-labels-spec : {M : Type 1} → statement M
+unfolding forEach ascending runAll
 store-labels-spec =
-    tie.close
-    (tie.spec
-    Inv-loop
-    μ-loop
-    returns
-    loop-holds
-    has-requires
-    mul-changed
-    array-copy-out-changed
-    changed-requires
-    mul-labels
-    array-set-from-labels
-    sub-left
-    add-d
-    loop-less
-    loop-again
-    returns-2)
+    tie.close (tie.spec Inv-loop μ-loop returns (λ c. (omega arith, λ b area. refl)) (search needs)
+    (λ c. omega arith) (λ c. omega arith) changed-requires (λ c. omega arith) (λ c. omega arith) sub-left
+    (λ c. omega arith) (λ c. omega arith) loop-again returns-2)

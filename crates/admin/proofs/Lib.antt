@@ -1,3 +1,0 @@
--- The laws of calls.
-pub mod Fresh
-pub mod Passed

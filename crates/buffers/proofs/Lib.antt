@@ -1,0 +1,3 @@
+-- The laws of buffers.
+pub mod Splicing
+pub mod Filling

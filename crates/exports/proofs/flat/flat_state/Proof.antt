@@ -1,0 +1,12 @@
+-- `exports::flat::flat_state` meets its contract. Assumes nothing.
+use borrow.Author.Needs.{needs}
+use Rattle.exports.specs.Flat.{flatState}
+use Rattle.exports.proofs.flat.flat_state.Statement.{statement}
+use Rattle.exports.proofs.flat.flat_state.Tie as tie
+
+returns : tie.Need-returns
+unfolding flatState
+returns c = rw (c .current .ensures)
+
+pub flat-state-spec : {M : Type 1} → statement M
+flat-state-spec = tie.close (tie.spec (search needs) returns)

@@ -1,0 +1,66 @@
+-- The disk area at the front of the memory: the part that is lent to a call, and what the call leaves. Assumes nothing.
+use mathlib.Core.Path.{_≡_, refl, sym, _∙_}
+use mathlib.Core.List.{List, [], _++_}
+use Prim.Native.Nat.{ℕ, min}
+use native.Mathlib.Omega.{arith}
+use lib.Dec.{ltb}
+use lib.ListN.{length, take, drop, getD, replicate, drop-of-length-le}
+use lib.Seq.{take-all, length-take-le}
+use borrow.Author.Tests.{ltb-true, ltb-false}
+use Rattle.sets.proofs.Tests.{Test, test, passes, fails}
+use Rattle.protocol.specs.declared.Answer.{Answer}
+use Rattle.protocol.specs.declared.Call.{Call}
+use Rattle.protocol.specs.declared.State.{State}
+use Rattle.protocol.specs.Geometry.{areaSize, blockSize}
+use Rattle.protocol.specs.Calls.{formatOutcome}
+use Rattle.protocol.specs.History.{Cabinet, perform}
+use Rattle.interpreter.specs.Execution.{machineOf, replyTo, keptState, formatExecuted, callReply, callExecuted}
+use Rattle.interpreter.proofs.FirstByte.{first-byte}
+
+module _ (size : ℕ) (memory : List ℕ) where
+  abbrev Lent : ℕ → Type 0
+  Lent end = (take end memory ≡ take size memory) × (drop end memory ≡ drop size memory)
+
+  lent : (end : ℕ) → end ≡ min size (length memory) → Lent end
+  lent end e = go (test (ltb size (length memory)))
+    where
+      go : Test (ltb size (length memory)) → Lent end
+      go (passes t) =
+          let h = ltb-true size (length memory) t in
+          let same : end ≡ size = omega (arith, h, e) in
+          rw same (refl, refl)
+      go (fails t) =
+          let h = ltb-false size (length memory) t in
+          let whole : end ≡ length memory = omega (arith, h, e) in (
+            take-all end memory (omega arith) ∙ sym (take-all size memory h),
+            drop-of-length-le memory {i = end} (omega arith) ∙ sym (drop-of-length-le memory h),
+          )
+
+  pub lent-length : (end : ℕ) → end ≡ min size (length memory) → end ≡ length (take end memory)
+  lent-length end e = sym (length-take-le end memory (omega (arith, e)))
+
+pub format-leaves : (n b : ℕ) (s : State) (memory : List ℕ) (end : ℕ) {area : List ℕ} {a : Answer}
+    → end ≡ min (areaSize n b) (length memory)
+    → record { answer = a; area = area; output = [] } ≡ formatOutcome (take end memory) [] n b
+    → record {
+      machine = machineOf (keptState a s) (area ++ drop end memory);
+      reply = replyTo (a .refusal) (a .stores) (keptState a s) 0;
+    } ≡ formatExecuted n b (machineOf s memory)
+unfolding formatExecuted
+format-leaves n b s memory end e done =
+    let part = lent (areaSize n b) memory end e in
+    rw (part .1, ← part .0, ← done)
+
+pub call-leaves : (call : Call) (byte : ℕ) (s : State) (memory : List ℕ) (end : ℕ) {area output : List ℕ} {a : Answer}
+    → end ≡ min (areaSize (s .disks) (s .blocks)) (length memory)
+    → record { answer = a; area = area; output = output }
+    ≡ perform call (replicate blockSize byte) (replicate blockSize 0) (record { state = s; area = take end memory })
+    → record {
+      machine = machineOf (a .state) (area ++ drop end memory);
+      reply = replyTo (a .refusal) (a .stores) (a .state) (getD output 0 0);
+    } ≡ callExecuted call byte (machineOf s memory)
+unfolding callExecuted callReply
+call-leaves call byte s memory end e done =
+    let part = lent (areaSize (s .disks) (s .blocks)) memory end e in
+    let before : Cabinet = record { state = s; area = take end memory } in
+    rw (part .1, ← part .0, ← done, ← (rw (← done) at (first-byte (replicate blockSize byte) before call)))

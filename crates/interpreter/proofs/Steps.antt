@@ -1,0 +1,103 @@
+-- A call among the commands: one more of the list, or none while the state is all zero. Assumes nothing.
+use mathlib.Core.Path.{_≡_, refl, sym, ap, _∙_}
+use mathlib.Core.Bool.{Bool, true, false}
+use mathlib.Core.List.{List, [], _∷_, _++_}
+use Prim.Native.Nat.{ℕ, _≤_}
+use native.Mathlib.Omega.{arith}
+use lib.ListN.{length, take, take-append-drop}
+use borrow.Author.Tests.{eqb-true}
+use Rattle.refusals.specs.Refusals.{firstOf}
+use Rattle.label.specs.Rules.{outside}
+use Rattle.protocol.specs.declared.Call.{Call}
+use Rattle.protocol.specs.declared.Call.the-variants.{Read, Write, Join, Clean, Restart, Detach, Attach, PowerOff}
+use Rattle.protocol.specs.Geometry.{areaSize}
+use Rattle.protocol.specs.Soundness.{inRange, sound}
+use Rattle.protocol.specs.Outcomes.{Outcome, refusedOr}
+use Rattle.protocol.specs.Calls.{unsound, zeroArea, formatOutcome, blockRefusals, readOutcome, writeOutcome}
+use Rattle.protocol.specs.Calls.{joinRefusals, joinOutcome, cleanRefusals, cleanOutcome, restartRefusals}
+use Rattle.protocol.specs.Calls.{restartOutcome, reachRefusals, detachOutcome, attachOutcome, powerOffOutcome}
+use Rattle.protocol.specs.States.{zeroState}
+use Rattle.protocol.specs.History.{Step, perform, outcomeOf, cabinetOf}
+use Rattle.protocol.specs.Demand3.{cabinetAfter}
+use Rattle.protocol.proofs.Outcomes.{refused-or}
+use Rattle.protocol.proofs.Formatting.{format-done}
+use Rattle.protocol.proofs.History.{ran-last}
+use Rattle.commands.specs.declared.Command.the-variants.{Perform}
+use Rattle.interpreter.specs.Execution.{Machine, machineOf, cabinetIn, stepOf, callExecuted, callReply, executed}
+use Rattle.interpreter.specs.Histories as history
+use Rattle.interpreter.proofs.Tracking.{largest, in-memory, area-back, memory-kept, fits, Tracks}
+
+-- "calls give 1" while the state is all zero
+zero-unsound : sound zeroState ≡ false
+unfolding sound zeroState inRange outside
+zero-unsound = refl
+
+module _ (bytes output area : List ℕ) where
+  abbrev Unchanged : Outcome → Type 0
+  Unchanged o = (o .answer .state ≡ zeroState) × (o .area ≡ area)
+
+  refuses : (later : List (ℕ × Bool)) (done : Outcome)
+      → Unchanged (refusedOr (unsound zeroState ∷ later) zeroState area output done)
+  unfolding firstOf
+  refuses later done =
+      refused-or (unsound zeroState ∷ later) zeroState area output done Unchanged (λ ne. (refl, refl))
+      (λ z. absurd (let one : _≡_ {A = ℕ} 1 0 = rw zero-unsound at z in omega (arith, one)))
+
+  zero-stays : (call : Call) → Unchanged (perform call bytes output (record { state = zeroState; area = area }))
+  unfolding perform readOutcome writeOutcome joinOutcome cleanOutcome restartOutcome detachOutcome attachOutcome
+      powerOffOutcome blockRefusals joinRefusals cleanRefusals restartRefusals reachRefusals
+  zero-stays (Read k) = refuses _ _
+  zero-stays (Write k budget) = refuses _ _
+  zero-stays (Join d budget) = refuses _ _
+  zero-stays (Clean budget) = refuses _ _
+  zero-stays (Restart budget) = refuses _ _
+  zero-stays (Detach d) = refuses _ _
+  zero-stays (Attach d) = refuses _ _
+  zero-stays PowerOff = refuses _ _
+
+module _ (call : Call) (byte : ℕ) where
+  abbrev x : Step
+  x = stepOf call byte
+
+  zero-machine : (memory : List ℕ)
+      → executed (Perform call byte) (machineOf zeroState memory) .machine ≡ machineOf zeroState memory
+  unfolding executed callExecuted
+  zero-machine memory =
+      let size = areaSize (zeroState .disks) (zeroState .blocks) in
+      let stays = zero-stays (x .bytes) (x .output) (take size memory) call in
+      rw (stays .0, stays .1, take-append-drop size memory)
+
+  module _ (m : Machine) (room : length (m .memory) ≡ largest) where
+    pub zero-tracked : m .state ≡ zeroState → Tracks history.unformatted (executed (Perform call byte) m .machine)
+    zero-tracked e = rw (e, zero-machine (m .memory)) (record { left = refl; room = room })
+
+    module _ (n b : ℕ) (earlier : List Step) (g : history.good n b ≡ true)
+        (e : cabinetIn m ≡ cabinetAfter n b (zeroArea n b) earlier) where
+      abbrev yielded : Outcome
+      yielded = outcomeOf x (cabinetAfter n b (zeroArea n b) earlier)
+
+      done : formatOutcome (zeroArea n b) [] n b .answer .refusal ≡ 0
+      done = eqb-true _ 0 g
+
+      one-more : cabinetAfter n b (zeroArea n b) (earlier ++ (x ∷ [])) ≡ cabinetOf yielded
+      one-more = ran-last earlier x _
+
+      pub call-tracked : Tracks (history.calls n b (earlier ++ (x ∷ []))) (executed (Perform call byte) m .machine)
+      unfolding executed callExecuted
+      call-tracked =
+          let before = fits n b done earlier in
+          let after = rw one-more at (fits n b done (earlier ++ (x ∷ []))) in
+          let range = format-done n b (zeroArea n b) [] done .0 in
+          let enough : areaSize n b ≤ length (m .memory) = omega (arith, room, in-memory n b range) in
+          let disks : m .state .disks ≡ n = ap (λ c. c .state .disks) e ∙ before .0 in
+          let blocks : m .state .blocks ≡ b = ap (λ c. c .state .blocks) e ∙ before .1 in
+          let back = area-back (m .memory) (areaSize n b) enough (yielded .area) (after .2) in
+          rw (e, disks, blocks)
+          (record {
+            left = (g, rw (after .0, after .1, back) (sym one-more));
+            room = memory-kept (m .memory) (areaSize n b) enough (yielded .area) (after .2) ∙ room;
+          })
+
+      pub call-replies : executed (Perform call byte) m .reply ≡ callReply call yielded
+      unfolding executed callExecuted
+      call-replies = rw e

@@ -1,0 +1,122 @@
+-- What is known where a call is not refused. Assumes nothing.
+use mathlib.Core.Path.{_≡_, refl}
+use mathlib.Core.Bool.{false, not}
+use mathlib.Core.List.{List}
+use Prim.Native.Nat.{ℕ, _<_}
+use lib.ListN.{length}
+use borrow.Author.Tests.{eqb-true, ltb-true, not-false}
+use Rattle.sets.proofs.Tests.{clash, positive}
+use Rattle.refusals.specs.Refusals.{firstOf}
+use Rattle.refusals.proofs.Order.{none-at}
+use Rattle.protocol.specs.declared.Power.{Power}
+use Rattle.protocol.specs.declared.Power.the-variants.{Stopped, Running}
+use Rattle.protocol.specs.declared.State.{State}
+use Rattle.protocol.specs.Geometry.{blockSize, areaSize}
+use Rattle.protocol.specs.States.{isRunning, currentOf, live}
+use Rattle.protocol.specs.Soundness.{Sound, sound}
+use Rattle.protocol.specs.Naming.{Stage, Found, none, one, several, Candidate, isNone, isSeveral, theSet, foundBy}
+use Rattle.protocol.specs.Calls.{wrongArea, blockRefusals, joinRefusals}
+use Rattle.protocol.specs.Calls.{cleanRefusals, restartRefusals, reachRefusals}
+use Rattle.protocol.proofs.Soundness.{test-agrees}
+use Rattle.protocol.proofs.Naming.{found-names}
+use Rattle.protocol.proofs.Backing.{found-candidate}
+
+sound-if : (s : State) → not (sound s) ≡ false → Sound s
+sound-if s e = test-agrees s .0 (not-false _ e)
+
+abbrev RightArea : State → List ℕ → Type 0
+RightArea s area = length area ≡ areaSize (s .disks) (s .blocks)
+
+area-if : (s : State) (area : List ℕ) → wrongArea (s .disks) (s .blocks) area ≡ false → RightArea s area
+area-if s area e = eqb-true _ _ (not-false _ e)
+
+-- it runs, with what is its current set
+abbrev Runs : Power → Type 0
+Runs p = p ≡ Running (currentOf p)
+
+runs-if : (p : Power) → not (isRunning p) ≡ false → Runs p
+runs-if Stopped e = clash refl e
+runs-if (Running g) e = refl
+
+pub record BlockPassed (s : State) (area : List ℕ) (k : ℕ) (bytes : List ℕ) : Type 0 where
+  pub fit : Sound s
+  pub size : RightArea s area
+  pub full : length bytes ≡ blockSize
+  pub runs : Runs (s .power)
+  pub known : k < s .blocks
+  pub some : 0 < live s
+
+pub block-passed : (s : State) (area : List ℕ) (k : ℕ) (bytes : List ℕ) → firstOf (blockRefusals s area k bytes) ≡ 0
+    → BlockPassed s area k bytes
+unfolding blockRefusals
+block-passed s area k bytes e =
+    let no = none-at (blockRefusals s area k bytes) refl e in
+    record {
+      fit = sound-if s (no 0);
+      size = area-if s area (no 1);
+      full = eqb-true _ _ (not-false _ (no 2));
+      runs = runs-if (s .power) (no 3);
+      known = ltb-true _ _ (not-false _ (no 4));
+      some = positive (live s) (no 5);
+    }
+
+pub record JoinPassed (s : State) (area : List ℕ) (d : ℕ) : Type 0 where
+  pub fit : Sound s
+  pub size : RightArea s area
+  pub runs : Runs (s .power)
+  pub known : d < s .disks
+  pub some : 0 < live s
+
+pub join-passed : (s : State) (area : List ℕ) (d : ℕ) → firstOf (joinRefusals s area d) ≡ 0 → JoinPassed s area d
+unfolding joinRefusals
+join-passed s area d e =
+    let no = none-at (joinRefusals s area d) refl e in
+    record {
+      fit = sound-if s (no 0);
+      size = area-if s area (no 1);
+      runs = runs-if (s .power) (no 2);
+      known = ltb-true _ _ (not-false _ (no 3));
+      some = positive (live s) (no 6);
+    }
+
+pub record CleanPassed (s : State) : Type 0 where
+  pub fit : Sound s
+  pub runs : Runs (s .power)
+
+pub clean-passed : (s : State) → firstOf (cleanRefusals s) ≡ 0 → CleanPassed s
+unfolding cleanRefusals
+clean-passed s e =
+    let no = none-at (cleanRefusals s) refl e in
+    record { fit = sound-if s (no 0); runs = runs-if (s .power) (no 1) }
+
+names-one-if : (f : Found) → isNone f ≡ false → isSeveral f ≡ false → f ≡ one (theSet f)
+names-one-if none p q = clash refl p
+names-one-if (one x) p q = refl
+names-one-if several p q = clash refl q
+
+pub record RestartPassed (s : State) (area : List ℕ) : Type 0 where
+  pub fit : Sound s
+  pub size : RightArea s area
+  -- the set that it names is a candidate of some stage
+  pub is-candidate : (stage : Stage) × Candidate stage (s .online) (s .labels) (theSet (foundBy s))
+
+pub restart-passed : (s : State) (area : List ℕ) → firstOf (restartRefusals s area) ≡ 0 → RestartPassed s area
+unfolding restartRefusals
+restart-passed s area e =
+    let no = none-at (restartRefusals s area) refl e in
+    let fit = sound-if s (no 0) in
+    record {
+      fit = fit;
+      size = area-if s area (no 1);
+      is-candidate = found-candidate (rw (names-one-if (foundBy s) (no 3) (no 4)) at (found-names s fit));
+    }
+
+pub record ReachPassed (s : State) (d : ℕ) : Type 0 where
+  pub fit : Sound s
+  pub known : d < s .disks
+
+pub reach-passed : (s : State) (d : ℕ) → firstOf (reachRefusals s d) ≡ 0 → ReachPassed s d
+unfolding reachRefusals
+reach-passed s d e =
+    let no = none-at (reachRefusals s d) refl e in
+    record { fit = sound-if s (no 0); known = ltb-true _ _ (not-false _ (no 1)) }

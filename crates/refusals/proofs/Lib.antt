@@ -1,0 +1,2 @@
+-- The laws of paragraphs of refusals.
+pub mod Order
