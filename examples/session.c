@@ -1,4 +1,5 @@
-/* Document 01's session, then clean, save and assemble: each function of the header, and each field of its structs. */
+/* Document 01's session, then clean, save, assemble and labels: each function of the header, and each field of its
+   structs. */
 #include "cabinet.h"
 #include <stdio.h>
 #include <string.h>
@@ -8,6 +9,18 @@ static struct cabinet_state told(struct cabinet_answer answer)
 {
     printf("%d %d %d %d\n", answer.refusal, answer.stores, answer.state.current, answer.state.online);
     return answer.state;
+}
+
+/* Document 01's H11: disk 1 of 3, committed to disks 0 and 1, region 0 dirty. */
+static void labels(void)
+{
+    struct cabinet_label label = {3, 0, 1};
+    uint8_t bytes[CABINET_SLOT_SIZE] = {0};
+    struct cabinet_written w = cabinet_write_label(bytes, sizeof bytes, 1, 3, label);
+    printf("%d %zu: %02x %02x %02x %02x %02x\n", w.refusal, w.length, bytes[0], bytes[1], bytes[2], bytes[3], bytes[4]);
+    struct cabinet_reading r = cabinet_read_label(bytes, sizeof bytes);
+    printf("%d %zu of %zu, %d %d %d, %zu\n", r.refusal, r.number, r.disks, r.label.committed, r.label.tentative,
+           r.label.dirty, r.length);
 }
 
 int main(void)
@@ -34,5 +47,6 @@ int main(void)
     printf("%d disks of %d blocks\n", s.disks, s.blocks);
     for (int d = 0; d < CABINET_MOST_DISKS; d++)
         printf("%d %d %d\n", s.labels[d].committed, s.labels[d].tentative, s.labels[d].dirty);
+    labels();
     return 0;
 }

@@ -1,9 +1,10 @@
 /*
  * The calls of the cohort-set disk cabinet (document 01), for C99 and C++ on x86-64 Linux. Each function is proved to
- * give what the definition of its call says: crates/protocol/specs/Calls.antt and Saving.antt.
+ * give what the definition of its call says: crates/protocol/specs/Calls.antt and Saving.antt, and
+ * crates/label/specs/Reading.antt and Writing.antt.
  *
- * Build and link:  rt staticlib exports
- *                  cc -Iinclude program.c target/staticlib/libexports.a
+ * Build and link:  ./library
+ *                  cc -Iinclude program.c target/libcabinet.a
  *
  * A set of disks is a byte, bit d for disk d. The disk area is one buffer of disks * blocks * 64 bytes: block k of disk
  * d starts at (d * blocks + k) * 64. The caller keeps the area and the state, and gives each call the state that the
@@ -64,6 +65,20 @@ struct cabinet_answer {
     uint8_t refusal; /* an enum cabinet_refusal */
 };
 
+/* What the bytes of a label say. Refused, all but the refusal is 0. */
+struct cabinet_reading {
+    uint8_t refusal; /* an enum cabinet_refusal */
+    size_t number;   /* the disk's */
+    size_t disks;
+    struct cabinet_label label;
+    size_t length; /* of the label in bytes, 2 to 5 */
+};
+
+struct cabinet_written {
+    uint8_t refusal; /* an enum cabinet_refusal */
+    size_t length;   /* of the label in bytes, 2 to 5; refused, 0 */
+};
+
 /* Document 01's numbers. A call gives the first in its own order whose condition holds. */
 enum cabinet_refusal {
     CABINET_DONE = 0,
@@ -82,11 +97,12 @@ enum cabinet_refusal {
     CABINET_NO_SET = 13,            /* the labels of the disks online name no set to run with */
     CABINET_SEVERAL_SETS = 14,      /* they name more than one */
     CABINET_POWER_LOST = 15,        /* the call has more stores to make than the budget */
-    CABINET_LABEL_CUT_SHORT = 16,   /* the label is cut short; never given here: a slot has room for any label */
+    CABINET_LABEL_CUT_SHORT = 16,   /* there are fewer bytes than the label has */
     CABINET_LABEL_MAP = 17,         /* a bit from 3 up stands in the label's map */
     CABINET_LABEL_PLACE = 18,       /* the label's disk number or number of disks cannot be, or is not its slot's */
     CABINET_LABEL_EMPTY_FIELD = 19, /* a field that the label's map names is 0 */
     CABINET_LABEL_SET = 20,         /* a set of the label names a disk that is not there, or omits its own */
+    CABINET_NO_ROOM = 21,           /* the output is shorter than the label */
     CABINET_NO_SUCH_REGION = 22     /* a dirty bit of the label names no region */
 };
 
@@ -141,6 +157,19 @@ struct cabinet_answer cabinet_save(struct cabinet_state state, uint8_t *slots, s
    Refuses: 4, 5, 2, 8, then slot by slot 17, 18 (cannot be), 19, 20, 18 (not its slot's), 22. */
 struct cabinet_answer cabinet_assemble(size_t disks, size_t blocks, uint8_t online, const uint8_t *slots,
                                        size_t slots_length);
+
+/* A label is a byte with bit 0 for the committed set, bit 1 for the tentative one and bit 2 for the dirty map; a byte
+   with the disk's number in its low four bits and disks in its high four; then a byte for each field whose bit stands,
+   in this order. A field of 0 has no bit. */
+
+/* The label that the bytes start with. What follows it is not read.
+   Refuses: 16 (fewer than 2 bytes), 17, 18 (cannot be), 16 (fewer than its bits ask), 19, 20. */
+struct cabinet_reading cabinet_read_label(const uint8_t *bytes, size_t bytes_length);
+
+/* Writes the label of the disk with this number, of so many disks, to the front of the output. What is behind it stays.
+   Refuses: 4, 8, 20, 21. */
+struct cabinet_written cabinet_write_label(uint8_t *output, size_t output_length, size_t number, size_t disks,
+                                           struct cabinet_label label);
 
 #ifdef __cplusplus
 }

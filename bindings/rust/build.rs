@@ -6,19 +6,19 @@ use std::path::PathBuf;
 /// The environment variable that names another folder with the archive.
 const FOLDER_VARIABLE: &str = "CABINET_LIB_DIR";
 
-/// Where `rt staticlib exports` leaves the archive.
-const BUILT_FOLDER: &str = "../../target/staticlib";
+/// Where `./library` leaves the archive.
+const BUILT_FOLDER: &str = "../../target";
 
 fn main() {
     let folder = library_folder();
-    let archive = folder.join("libexports.a");
+    let archive = folder.join("libcabinet.a");
     println!("cargo::rerun-if-env-changed={FOLDER_VARIABLE}");
     println!("cargo::rerun-if-changed={}", archive.display());
     if archive.is_file() {
         println!("cargo::rustc-link-search=native={}", folder.display());
-        println!("cargo::rustc-link-lib=static=exports");
+        println!("cargo::rustc-link-lib=static=cabinet");
     } else {
-        let remedy = format!("run `rt staticlib exports` in the repository's root, or set {FOLDER_VARIABLE}");
+        let remedy = format!("run `./library` in the repository's root, or set {FOLDER_VARIABLE}");
         println!("cargo::error={} is not there: {remedy}", archive.display());
     }
 }

@@ -26,6 +26,8 @@ impl Source for Arbitrary {
         match call {
             Call::Fresh => fresh(random),
             Call::Assemble => assemble(random),
+            Call::ReadLabel => read_label(random),
+            Call::WriteLabel => write_label(random),
             _ => on_state(random, call),
         }
     }
@@ -58,13 +60,7 @@ fn on_state(random: &mut Random, call: Call) -> Case {
 /// An assemble.
 fn assemble(random: &mut Random) -> Case {
     let state = states::sound(random, 50);
-    let mut slots = saved(&state);
-    match random.below(10) {
-        0 => slots.fill_with(|| random.byte()),
-        1 => change_fields(random, &mut slots),
-        2..=7 => change_bytes(random, &mut slots),
-        _ => (),
-    }
+    let mut slots = saved_and_changed(random, &state);
     let length = length(random, slots.len(), BAD / 2);
     slots.resize(length, 0);
     let (disks, blocks) = (usize::from(state.disks), usize::from(state.blocks));
@@ -80,6 +76,48 @@ fn assemble(random: &mut Random) -> Case {
         buffer: slots,
         ..Case::new(Call::Assemble)
     }
+}
+
+/// A label reading: of a slot, with those behind it or cut short somewhere.
+fn read_label(random: &mut Random) -> Case {
+    let state = states::sound(random, 50);
+    let slots = saved_and_changed(random, &state);
+    let start = SLOT * random.below(state.disks.into());
+    let mut bytes = slots[start..].to_vec();
+    if random.percent(40) {
+        bytes.truncate(random.below(SLOT + 1));
+    }
+    Case {
+        buffer: bytes,
+        ..Case::new(Call::ReadLabel)
+    }
+}
+
+/// A label writing: of a label that some state has, mostly with its own numbers, into an output about as long.
+fn write_label(random: &mut Random) -> Case {
+    let state = states::any(random, 50);
+    let disks = usize::from(state.disks);
+    let disk = random.below(disks.clamp(1, state.labels.len()));
+    let room = random.pick(&[2, 3, 4, SLOT, SLOT, SLOT + 1, 2 * SLOT]);
+    Case {
+        disks: number(random, disks..=disks, BAD),
+        number: number(random, disk..=disk, BAD),
+        label: state.labels[disk],
+        buffer: bytes(random, room, BAD),
+        ..Case::new(Call::WriteLabel)
+    }
+}
+
+/// The slots of a sound state, in three of four cases with something changed.
+fn saved_and_changed(random: &mut Random, state: &State) -> Vec<u8> {
+    let mut slots = saved(state);
+    match random.below(12) {
+        0 => slots.fill_with(|| random.byte()),
+        1 => change_fields(random, &mut slots),
+        2..=8 => change_bytes(random, &mut slots),
+        _ => (),
+    }
+    slots
 }
 
 /// Changes a byte of the slots, or two.

@@ -1,6 +1,6 @@
 //! A case: one call, with everything that goes into it.
 
-use reference::plain::State;
+use reference::plain::{Label, State};
 
 /// The calls, by the paper's names.
 #[derive(Clone, Copy, Debug, PartialEq, Eq, PartialOrd, Ord)]
@@ -27,11 +27,15 @@ pub enum Call {
     Save,
     /// Assemble: n, b, R; the slots.
     Assemble,
+    /// Label reading: the bytes.
+    ReadLabel,
+    /// Label writing: the label, d, n; the output.
+    WriteLabel,
 }
 
 impl Call {
     /// Every call, with its name in a line.
-    pub const ALL: [(Call, &'static str); 11] = [
+    pub const ALL: [(Call, &'static str); 13] = [
         (Call::Fresh, "fresh"),
         (Call::Read, "read"),
         (Call::Write, "write"),
@@ -43,6 +47,8 @@ impl Call {
         (Call::Cut, "cut"),
         (Call::Save, "save"),
         (Call::Assemble, "assemble"),
+        (Call::ReadLabel, "read-label"),
+        (Call::WriteLabel, "write-label"),
     ];
 
     /// Its name.
@@ -50,9 +56,9 @@ impl Call {
         Call::ALL[self as usize].1
     }
 
-    /// "Fresh and assembling are given no state."
+    /// "Fresh and assembling are given no state", and labels stand below the cabinet.
     pub fn takes_state(self) -> bool {
-        !matches!(self, Call::Fresh | Call::Assemble)
+        !matches!(self, Call::Fresh | Call::Assemble | Call::ReadLabel | Call::WriteLabel)
     }
 
     /// Whether it takes the disk area.
@@ -84,11 +90,13 @@ pub struct Case {
     pub reach: u8,
     /// The number k of a block or d of a disk.
     pub number: usize,
+    /// The label to write.
+    pub label: Label,
     /// The supply.
     pub supply: u16,
     /// The disk area.
     pub area: Vec<u8>,
-    /// The output of a read, the data of a write, or the slots.
+    /// The output of a read, the data of a write, the slots, or a label's bytes.
     pub buffer: Vec<u8>,
 }
 
@@ -102,6 +110,7 @@ impl Case {
             blocks: 0,
             reach: 0,
             number: 0,
+            label: Label::default(),
             supply: 0,
             area: Vec::new(),
             buffer: Vec::new(),

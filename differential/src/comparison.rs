@@ -4,6 +4,7 @@ use crate::case::Case;
 use crate::counts::Counts;
 use crate::implementations::{Implementation, Outcome};
 use crate::{state_bytes, word};
+use reference::plain::Reading;
 use std::fmt;
 use std::panic::{catch_unwind, AssertUnwindSafe};
 
@@ -66,6 +67,14 @@ impl fmt::Display for Outcome {
     fn fmt(&self, f: &mut fmt::Formatter<'_>) -> fmt::Result {
         write!(f, "result={} stores={}", self.result, self.stores)?;
         write!(f, " state={}", word::word_of(&state_bytes::bytes_of(&self.state)))?;
+        let Reading {
+            disk,
+            disks,
+            label,
+            length,
+        } = self.reading;
+        let label = word::word_of(&state_bytes::label_bytes(&label));
+        write!(f, " reading={disk},{disks},{label},{length}")?;
         write!(
             f,
             " area={} buffer={}",

@@ -31,13 +31,14 @@ impl Counts {
     }
 }
 
-/// A line for each call: its name, then each result with its count.
+/// A line for each call that was made: its name, then each result with its count.
 impl fmt::Display for Counts {
     fn fmt(&self, f: &mut fmt::Formatter<'_>) -> fmt::Result {
-        for (call, name) in Call::ALL {
+        let made = |(call, _): &(Call, &str)| !self.results(*call).is_empty();
+        for (call, name) in Call::ALL.into_iter().filter(made) {
             let count = |result: u8| format!(" {result}: {}", self.of(call, result));
             let counts: Vec<String> = self.results(call).into_iter().map(count).collect();
-            writeln!(f, "  {name:8} {}", counts.join(" "))?;
+            writeln!(f, "  {name:11} {}", counts.join(" "))?;
         }
         Ok(())
     }

@@ -1,5 +1,6 @@
 //! A case as one line of text, from which it can be run again: the call's name, then a word `KEY=VALUE` for each
-//! argument that is not zero or empty. Numbers are decimal; states and buffers are as in `word` and `state_bytes`.
+//! argument that is not zero or empty. Numbers are decimal; states, labels and buffers are as in `word` and
+//! `state_bytes`.
 
 use crate::case::{Call, Case};
 use crate::{state_bytes, word};
@@ -34,13 +35,14 @@ impl Case {
     }
 
     /// Each argument by its key, as text.
-    fn fields(&self) -> [(&'static str, String); 8] {
+    fn fields(&self) -> [(&'static str, String); 9] {
         [
             ("state", word::word_of(&state_bytes::bytes_of(&self.state))),
             ("disks", self.disks.to_string()),
             ("blocks", self.blocks.to_string()),
             ("reach", self.reach.to_string()),
             ("number", self.number.to_string()),
+            ("label", word::word_of(&state_bytes::label_bytes(&self.label))),
             ("supply", self.supply.to_string()),
             ("area", word::word_of(&self.area)),
             ("buffer", word::word_of(&self.buffer)),
@@ -55,6 +57,7 @@ impl Case {
             "blocks" => self.blocks = value.parse().ok()?,
             "reach" => self.reach = value.parse().ok()?,
             "number" => self.number = value.parse().ok()?,
+            "label" => self.label = state_bytes::label_of(&word::bytes_of(value)?)?,
             "supply" => self.supply = value.parse().ok()?,
             "area" => self.area = word::bytes_of(value)?,
             "buffer" => self.buffer = word::bytes_of(value)?,

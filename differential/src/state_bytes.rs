@@ -1,4 +1,4 @@
-//! A state as 28 bytes: n, b, R, G, then C, T and the dirty map of each disk.
+//! A state as 28 bytes: n, b, R, G, then each disk's label, which is 3: C, T and the dirty map.
 
 use reference::plain::{Label, State};
 
@@ -10,7 +10,7 @@ pub fn bytes_of(state: &State) -> [u8; LENGTH] {
     let mut bytes = [0; LENGTH];
     bytes[..4].copy_from_slice(&[state.disks, state.blocks, state.reach, state.current]);
     for (fields, label) in bytes[4..].chunks_exact_mut(3).zip(&state.labels) {
-        fields.copy_from_slice(&[label.committed, label.tentative, label.dirty]);
+        fields.copy_from_slice(&label_bytes(label));
     }
     bytes
 }
@@ -25,11 +25,24 @@ pub fn state_of(bytes: &[u8; LENGTH]) -> State {
         ..State::default()
     };
     for (label, fields) in state.labels.iter_mut().zip(bytes[4..].chunks_exact(3)) {
-        *label = Label {
-            committed: fields[0],
-            tentative: fields[1],
-            dirty: fields[2],
-        };
+        *label = label_of(fields).expect("these are 3 bytes");
     }
     state
+}
+
+/// The bytes of this label.
+pub fn label_bytes(label: &Label) -> [u8; 3] {
+    [label.committed, label.tentative, label.dirty]
+}
+
+/// The label of these bytes; `None` if they are not 3.
+pub fn label_of(bytes: &[u8]) -> Option<Label> {
+    let &[committed, tentative, dirty] = bytes else {
+        return None;
+    };
+    Some(Label {
+        committed,
+        tentative,
+        dirty,
+    })
 }

@@ -1,4 +1,4 @@
-//! Random states: sound ones, sound ones with a byte or two damaged, and any bytes.
+//! Random states: sound ones, some of them the paper's, sound ones with a byte or two damaged, and any bytes.
 
 use crate::arguments::{blocks, byte, disks};
 use crate::state_bytes;
@@ -7,6 +7,20 @@ use reference::random::Random;
 
 /// The sets that the labels of one state name, besides those of one disk.
 const POOL: usize = 3;
+
+/// "Labels and cuts to check by hand", H1 to H10: C and T of each disk, and R.
+pub const BY_HAND: [(&[u8], &[u8], u8); 10] = [
+    (&[1, 3, 7], &[0, 0, 0], 7),
+    (&[1, 3, 7], &[0, 0, 0], 6),
+    (&[3, 3, 6], &[0, 0, 0], 7),
+    (&[7, 7, 7], &[3, 3, 0], 3),
+    (&[3, 7, 7], &[0, 3, 0], 7),
+    (&[7, 7, 7], &[3, 0, 0], 3),
+    (&[7, 7, 7], &[3, 0, 0], 7),
+    (&[3, 3, 7], &[7, 7, 7], 3),
+    (&[3, 3, 7], &[7, 7, 7], 7),
+    (&[1, 2], &[0, 0], 3),
+];
 
 /// Any state, sound in about two of three. Of the sound ones so many of a hundred are stopped.
 pub fn any(random: &mut Random, stopped: usize) -> State {
@@ -20,7 +34,11 @@ pub fn any(random: &mut Random, stopped: usize) -> State {
 
 /// A sound state, also such as no history reaches; so many of a hundred are stopped.
 pub fn sound(random: &mut Random, stopped: usize) -> State {
-    let state = stopped_state(random);
+    let state = if random.percent(5) {
+        by_hand(random)
+    } else {
+        stopped_state(random)
+    };
     if random.percent(stopped) {
         state
     } else {
@@ -40,7 +58,7 @@ fn stopped_state(random: &mut Random) -> State {
     };
     let pool: [u8; POOL] = std::array::from_fn(|_| byte(random, 0xff, 25) & byte(random, 0xff, 50) & all);
     let (loyalty, proposing) = (random.pick(&[40, 80, 100]), random.pick(&[0, 40, 90]));
-    let regions = below(blocks.div_ceil(8)) & random.pick(&[0, 0xff]);
+    let regions = regions_of(random, blocks);
     for disk in 0..disks {
         state.labels[usize::from(disk)] = Label {
             committed: named(random, &pool, disk, loyalty),
@@ -53,6 +71,32 @@ fn stopped_state(random: &mut Random) -> State {
         };
     }
     state
+}
+
+/// One of the paper's states, with any number of blocks.
+fn by_hand(random: &mut Random) -> State {
+    let (committed, tentative, reach) = random.pick(&BY_HAND);
+    let blocks = blocks(random) as u8;
+    let mut state = State {
+        disks: committed.len() as u8,
+        blocks,
+        reach,
+        ..State::default()
+    };
+    let regions = regions_of(random, blocks);
+    for (label, (&committed, &tentative)) in state.labels.iter_mut().zip(committed.iter().zip(tentative)) {
+        *label = Label {
+            committed,
+            tentative,
+            dirty: regions & random.byte(),
+        };
+    }
+    state
+}
+
+/// The regions that may be dirty in a state: all or none.
+fn regions_of(random: &mut Random, blocks: u8) -> u8 {
+    below(blocks.div_ceil(8)) & random.pick(&[0, 0xff])
 }
 
 /// A set that a label of this disk may name: mostly the first of the pool that has the disk.

@@ -16,8 +16,8 @@ const CALLS: usize = 300_000;
 const OFTEN: usize = 150;
 
 /// The results that each call can give. Assembling passes on the label's own refusals, but for 16: a slot has 5 bytes,
-/// and no label is longer. 21 is label writing's, and a save's slots have room.
-const RESULTS: [(Call, &[u8]); 11] = [
+/// and no label is longer.
+const RESULTS: [(Call, &[u8]); 13] = [
     (Call::Fresh, &[0, 2, 4, 5]),
     (Call::Read, &[0, 1, 2, 3, 6, 9, 12]),
     (Call::Write, &[0, 1, 2, 3, 6, 9, 12, 15]),
@@ -29,6 +29,8 @@ const RESULTS: [(Call, &[u8]); 11] = [
     (Call::Cut, &[0, 1]),
     (Call::Save, &[0, 1, 2]),
     (Call::Assemble, &[0, 2, 4, 5, 8, 17, 18, 19, 20, 22]),
+    (Call::ReadLabel, &[0, 16, 17, 18, 19, 20]),
+    (Call::WriteLabel, &[0, 4, 8, 20, 21]),
 ];
 
 /// What all three give for the cases of this source.

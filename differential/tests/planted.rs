@@ -9,10 +9,11 @@ use differential::implementations::{Implementation, Outcome, Plain, Proved, Refe
 use reference::mistakes::{Mistake, Rules};
 use reference::random::Random;
 
-/// The mistakes that no call shows: two are the book's, one is a claim's, and one is a law's.
-const HIDDEN: [Mistake; 4] = [
+/// The mistakes that no call shows: two are the book's, two are claims', and one is a law's.
+const HIDDEN: [Mistake; 5] = [
     Mistake::BookCountsAtLastDisk,
     Mistake::BookCountsEveryWrite,
+    Mistake::CutWriteCountsEarly,
     Mistake::FinderMissesCommitted,
     Mistake::WriteBoundThree,
 ];
@@ -75,9 +76,11 @@ fn a_change_of_anything_that_a_call_gives_is_found() {
         Meddling(Call::Quiet, |outcome| outcome.stores += 1),
         Meddling(Call::Cut, |outcome| outcome.result = 16),
         Meddling(Call::Lose, |outcome| outcome.state.labels[7].dirty ^= 128),
+        Meddling(Call::ReadLabel, |outcome| outcome.reading.label.dirty ^= 128),
+        Meddling(Call::WriteLabel, |outcome| outcome.reading.length ^= 1),
     ];
     for meddler in meddlers {
-        let difference = found(&meddler, Histories::new(Random::new(5)));
+        let difference = found(&meddler, Arbitrary(Random::new(5)));
         let calls = difference.map(|difference| difference.case.call);
         assert_eq!(calls, Some(meddler.0));
     }
@@ -99,7 +102,7 @@ impl Implementation for Mistaking {
 
 #[test]
 fn a_number_that_is_cut_to_fewer_bits_or_off_by_one_is_found() {
-    let mistakes: [fn(&mut Case); 10] = [
+    let mistakes: [fn(&mut Case); 12] = [
         |case| case.number = usize::from(case.number as u8),
         |case| case.number = usize::from(case.number as u16),
         |case| case.number = case.number as u32 as usize,
@@ -107,6 +110,8 @@ fn a_number_that_is_cut_to_fewer_bits_or_off_by_one_is_found() {
         |case| case.disks = case.disks as u32 as usize,
         |case| case.blocks = case.blocks as u32 as usize,
         |case| case.reach &= 0x7f,
+        |case| case.label.tentative &= 0x7f,
+        |case| case.label.dirty &= 0x7f,
         |case| case.supply = case.supply.min(255),
         |case| case.supply = case.supply.saturating_add(1),
         |case| case.supply = case.supply.saturating_sub(1),

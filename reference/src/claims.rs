@@ -11,6 +11,7 @@ use crate::refusal::*;
 use crate::sets::DiskSet;
 use crate::slots::{self, SLOT};
 use crate::state::{Power, State};
+use crate::store::Store;
 
 /// One claim.
 #[derive(Clone, Copy, Debug, PartialEq, Eq)]
@@ -29,6 +30,8 @@ pub enum Claim {
     ReadsBook,
     /// Acknowledged writes count.
     AcknowledgedCounts,
+    /// Cut writes count from the store on the lowest member of L on.
+    CutCounts,
     /// The bound of a write.
     WriteBound,
     /// Refusals change nothing.
@@ -72,13 +75,14 @@ impl Claim {
     ];
 
     /// The claims about each call that is made.
-    pub const OF_CALLS: [Claim; 8] = [
+    pub const OF_CALLS: [Claim; 9] = [
         Claim::RestartedBlocks,
         Claim::NotSeveral,
         Claim::RestartFinds,
         Claim::NoneUnsound,
         Claim::ReadsBook,
         Claim::AcknowledgedCounts,
+        Claim::CutCounts,
         Claim::WriteBound,
         Claim::RefusedUnchanged,
     ];
@@ -101,6 +105,7 @@ impl Claim {
             Claim::NoneUnsound => "no call gives 1",
             Claim::ReadsBook => "a read that gives 0 yields the book's block",
             Claim::AcknowledgedCounts => "a write that gives 0 counts in the book",
+            Claim::CutCounts => "a cut write counts exactly when its stores reach that on the lowest member of L",
             Claim::WriteBound => {
                 let bound = write_bound(rules);
                 return format!("a write makes at most {bound} times as many stores as L has disks");
@@ -139,6 +144,9 @@ impl Claim {
                 result != DONE || event.output == event.book.block(*block as usize)
             }
             (Claim::AcknowledgedCounts, Call::Write { .. }) => result != DONE || event.counted,
+            (Claim::CutCounts, Call::Write { block, .. }) => {
+                result != SUPPLY_ENDED || event.counted == (event.answer.stores >= source_store(event, *block))
+            }
             (Claim::WriteBound, Call::Write { .. }) => {
                 event.answer.stores <= write_bound(event.after.rules) * event.before.live().size()
             }
@@ -158,6 +166,13 @@ fn write_bound(rules: Rules) -> usize {
     } else {
         4
     }
+}
+
+/// The place in a write's list, from 1, of the block store on the lowest member of L: it is the first block store.
+fn source_store(event: &Event, block: u16) -> usize {
+    let list = lists::write(event.after.rules, event.before, block as u8, &[]);
+    let before = list.iter().take_while(|store| !matches!(store, Store::Block { .. }));
+    before.count() + usize::from(!event.after.rules.makes(Mistake::CutWriteCountsEarly))
 }
 
 /// "For each disk d of that G and each k below b, block k of d in the disk area equals block k of the book."

@@ -1,7 +1,7 @@
 //! The committed files that the reference makes, and which tests compare.
 
 use crate::mistakes::Rules;
-use crate::{cases, corpus, driver};
+use crate::{corpus, driver};
 use std::path::{Path, PathBuf};
 
 /// One file: its place from the root of the repository, and its bytes.
@@ -12,17 +12,13 @@ pub struct Made {
     pub bytes: Vec<u8>,
 }
 
-/// The four files: input and output of the cabinet program's corpus and of the case table.
-pub fn all() -> Vec<Made> {
-    let console = corpus::input();
-    let console_answers = driver::answers(Rules::PAPER, &console);
-    let cases = cases::input();
-    let case_answers = cases::answers(Rules::PAPER, &cases);
-    vec![
-        made("crates/console/stdin", console),
-        made("crates/console/stdout", console_answers),
-        made("crates/cases/stdin", cases),
-        made("crates/cases/stdout", case_answers),
+/// The two files: input and output of the cabinet program's corpus.
+pub fn all() -> [Made; 2] {
+    let input = corpus::input();
+    let answers = driver::answers(Rules::PAPER, &input);
+    [
+        made("crates/console/stdin", input),
+        made("crates/console/stdout", answers),
     ]
 }
 

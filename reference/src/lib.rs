@@ -10,8 +10,6 @@
 pub mod book;
 pub mod cabinet;
 pub mod call;
-pub mod case;
-pub mod cases;
 pub mod claims;
 pub mod corpus;
 pub mod definitions;

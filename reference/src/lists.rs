@@ -7,11 +7,7 @@ use crate::store::Store;
 
 /// "Moving to set S: for each disk of S, ascending, store T = S; then for each disk of S, ascending, store C = S and
 /// T = 0."
-fn move_to<'a>(rules: Rules, set: DiskSet) -> Vec<Store<'a>> {
-    if rules.makes(Mistake::EarlyCommit) {
-        let both = |disk| [Store::Propose { disk, set }, Store::Commit { disk, set }];
-        return set.members().flat_map(both).collect();
-    }
+fn move_to<'a>(set: DiskSet) -> Vec<Store<'a>> {
     let mut list: Vec<Store> = set.members().map(|disk| Store::Propose { disk, set }).collect();
     list.extend(commits(set));
     list
@@ -23,18 +19,18 @@ fn commits<'a>(set: DiskSet) -> impl Iterator<Item = Store<'a>> {
 }
 
 /// "If L differs from G, move to L."
-fn move_to_live<'a>(rules: Rules, state: &State) -> Vec<Store<'a>> {
+fn move_to_live<'a>(state: &State) -> Vec<Store<'a>> {
     if state.live() == state.current() {
         Vec::new()
     } else {
-        move_to(rules, state.live())
+        move_to(state.live())
     }
 }
 
 /// "Write block k: if L differs from G, move to L. Then set the region's dirty bit on each disk of L, ascending,
 /// where it does not stand. Then store the block on each disk of L, ascending."
 pub fn write<'a>(rules: Rules, state: &State, block: u8, data: &'a [u8]) -> Vec<Store<'a>> {
-    let mut before = move_to_live(rules, state);
+    let mut before = move_to_live(state);
     before.extend(marks(state, block / REGION));
     let blocks: Vec<Store> = if rules.makes(Mistake::WriteStoresNothing) {
         Vec::new()
@@ -64,11 +60,11 @@ fn block_stores<'a>(state: &State, block: u8, data: &'a [u8]) -> impl Iterator<I
 /// "Join disk d: if L differs from G, move to L. Copy all blocks, ascending, from the lowest member of L to d. Then
 /// move to L with d. The dirty map of d is not touched."
 pub fn join<'a>(rules: Rules, state: &State, disk: u8) -> Vec<Store<'a>> {
-    let first = move_to_live(rules, state);
+    let first = move_to_live(state);
     let from = state.live().lowest();
     let copy = |block| from.map(|from| Store::Copy { from, to: disk, block });
     let copies: Vec<Store> = (0..state.blocks).filter_map(copy).collect();
-    let joining = move_to(rules, state.live().with(disk));
+    let joining = move_to(state.live().with(disk));
     if rules.makes(Mistake::JoinBeforeCopies) {
         [first, joining, copies].concat()
     } else {

@@ -21,7 +21,9 @@ pub enum Mistake {
     CutMakesWholeList,
     /// A call that is cut leaves the cabinet running with the disks in reach.
     CutRunsOn,
-    /// A move commits each disk before it proposes to the next one.
+    /// A cut write is said to count one store before that on the lowest member of L.
+    CutWriteCountsEarly,
+    /// A move's first store on a disk commits it too, before the next one has the tentative set.
     EarlyCommit,
     /// No stage 2: committed sets decide whenever some tentative set is missing.
     FallbackToCommitted,
@@ -33,6 +35,8 @@ pub enum Mistake {
     JoinBeforeCopies,
     /// One member suffices for a stage, and the largest of several sets is taken.
     LargerSet,
+    /// Only a set that has most of the disks in reach is taken.
+    Majority,
     /// A read yields block 0.
     ReadOfAnotherBlock,
     /// A restart clears a region's dirty bits and copies nothing.
@@ -55,7 +59,7 @@ pub enum Mistake {
 
 impl Mistake {
     /// Every mistake with its name.
-    pub const ALL: [(Mistake, &'static str); 23] = [
+    pub const ALL: [(Mistake, &'static str); 25] = [
         (Mistake::AssembleOneSlot, "assemble_one_slot"),
         (Mistake::BlocksBeforeBits, "blocks_before_bits"),
         (Mistake::BookCountsAtLastDisk, "book_counts_at_last_disk"),
@@ -64,12 +68,14 @@ impl Mistake {
         (Mistake::CopiesFromOtherMember, "copies_from_other_member"),
         (Mistake::CutMakesWholeList, "cut_makes_whole_list"),
         (Mistake::CutRunsOn, "cut_runs_on"),
+        (Mistake::CutWriteCountsEarly, "cut_write_counts_early"),
         (Mistake::EarlyCommit, "early_commit"),
         (Mistake::FallbackToCommitted, "fallback_to_committed"),
         (Mistake::FinderMissesCommitted, "finder_misses_committed"),
         (Mistake::FormatWithTentative, "format_with_tentative"),
         (Mistake::JoinBeforeCopies, "join_before_copies"),
         (Mistake::LargerSet, "larger_set"),
+        (Mistake::Majority, "majority"),
         (Mistake::ReadOfAnotherBlock, "read_of_another_block"),
         (Mistake::RestartCopiesNothing, "restart_copies_nothing"),
         (Mistake::RestartNamesAll, "restart_names_all"),

@@ -39,7 +39,7 @@ pub fn named(rules: Rules, labels: &[Label; 8], reach: DiskSet) -> Found {
         return Found::None;
     }
     decide(rules, |stage| {
-        let fits = |x: &DiskSet| is_candidate(rules, stage, labels, *x);
+        let fits = |x: &DiskSet| is_candidate(rules, stage, labels, reach, *x);
         reach.sets_inside().filter(fits).collect()
     })
 }
@@ -49,7 +49,7 @@ pub fn named(rules: Rules, labels: &[Label; 8], reach: DiskSet) -> Found {
 pub fn found_by_disks(rules: Rules, labels: &[Label; 8], reach: DiskSet) -> Found {
     decide(rules, |stage| {
         let tried = |d: u8| tried(rules, stage, &labels[d as usize]);
-        let fits = |x: &DiskSet| x.inside(reach) && is_candidate(rules, stage, labels, *x);
+        let fits = |x: &DiskSet| x.inside(reach) && is_candidate(rules, stage, labels, reach, *x);
         let mut sets: Vec<DiskSet> = reach.members().map(tried).filter(fits).collect();
         sets.sort();
         sets.dedup();
@@ -88,7 +88,7 @@ fn largest(sets: &[DiskSet]) -> Found {
 }
 
 /// Whether X is a candidate in this stage: it is not empty, and its members' labels are as the stage asks.
-fn is_candidate(rules: Rules, stage: Stage, labels: &[Label; 8], x: DiskSet) -> bool {
+fn is_candidate(rules: Rules, stage: Stage, labels: &[Label; 8], reach: DiskSet, x: DiskSet) -> bool {
     let proposes = |d: u8| labels[d as usize].tentative == x;
     let has_committed = |d: u8| labels[d as usize].committed == x;
     let backs = |d: u8| match stage {
@@ -102,5 +102,6 @@ fn is_candidate(rules: Rules, stage: Stage, labels: &[Label; 8], x: DiskSet) -> 
         !x.is_empty() && x.members().all(backs)
     };
     let asks_proposal = stage == Stage::Second && !rules.makes(Mistake::StageTwoWithoutProposal);
-    backed && (!asks_proposal || x.members().any(proposes))
+    let outvoted = rules.makes(Mistake::Majority) && 2 * x.size() <= reach.size();
+    backed && (!asks_proposal || x.members().any(proposes)) && !outvoted
 }

@@ -19,11 +19,14 @@ pub fn claim_against(mistake: Mistake) -> Claim {
     match mistake {
         Mistake::AssembleOneSlot => Claim::SavedAssembles,
         Mistake::CutRunsOn | Mistake::FormatWithTentative | Mistake::StaleTentative => Claim::Sound,
-        Mistake::EarlyCommit | Mistake::FallbackToCommitted | Mistake::RestartRefusesAlways => Claim::RestartFinds,
+        Mistake::EarlyCommit | Mistake::FallbackToCommitted | Mistake::Majority | Mistake::RestartRefusesAlways => {
+            Claim::RestartFinds
+        }
         Mistake::FinderMissesCommitted => Claim::FinderAgrees,
         Mistake::ReadOfAnotherBlock => Claim::ReadsBook,
         Mistake::SoundIgnoresTentative => Claim::TestAgrees,
         Mistake::StageTwoWithoutProposal => Claim::NamedAsDefined,
+        Mistake::CutWriteCountsEarly => Claim::CutCounts,
         Mistake::WriteBoundThree => Claim::WriteBound,
         Mistake::WriteStoresNothing => Claim::AcknowledgedCounts,
         Mistake::BlocksBeforeBits

@@ -34,8 +34,17 @@ pub fn apply(rules: Rules, store: Store, state: &mut State, area: &mut [u8]) {
         }
         Store::SetDirty { disk, region } => state.labels[disk as usize].dirty |= 1 << region,
         Store::ClearDirty { disk, region } => state.labels[disk as usize].dirty &= !(1 << region),
-        Store::Propose { disk, set } => state.labels[disk as usize].tentative = set,
+        Store::Propose { disk, set } => propose(rules, set, state, disk),
         Store::Commit { disk, set } => commit(rules, set, state, disk),
+    }
+}
+
+/// "T = S."
+fn propose(rules: Rules, set: DiskSet, state: &mut State, disk: u8) {
+    let label = &mut state.labels[disk as usize];
+    label.tentative = set;
+    if rules.makes(Mistake::EarlyCommit) {
+        label.committed = set;
     }
 }
 

@@ -78,9 +78,10 @@ fn found(mistake: Mistake, committed: [u8; 3], tentative: [u8; 3]) -> Found {
 
 /// H1's set is 1.
 #[test]
-fn h1_refuses_the_larger_set_and_fixed_answers() {
+fn h1_refuses_the_larger_set_a_majority_and_fixed_answers() {
     let h1 = |mistake| found(mistake, [1, 3, 7], [0, 0, 0]);
     assert_eq!(h1(Mistake::LargerSet), Found::One(DiskSet(7)));
+    assert_eq!(h1(Mistake::Majority), Found::None);
     assert_eq!(h1(Mistake::RestartNamesAll), Found::One(DiskSet(7)));
     assert_eq!(h1(Mistake::RestartRefusesAlways), Found::None);
 }

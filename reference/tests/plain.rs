@@ -2,8 +2,9 @@
 
 use reference::cabinet::{self, Cabinet};
 use reference::call::Call;
+use reference::label;
 use reference::mistakes::Rules;
-use reference::plain::{self, Answer, Label, State};
+use reference::plain::{self, Answer, Label, Reading, State};
 use reference::random::Random;
 use reference::sets::DiskSet;
 use reference::slots;
@@ -12,7 +13,7 @@ use std::collections::BTreeSet;
 /// The calls that are compared.
 const CALLS: usize = 400_000;
 /// The numbers of the calls, and the results that each can give.
-const RESULTS: [&[u8]; 11] = [
+const RESULTS: [&[u8]; 13] = [
     &[0, 1, 2, 3, 6, 9, 12],
     &[0, 1, 2, 3, 6, 9, 12, 15],
     &[0, 1, 2, 6, 8, 10, 11, 12, 15],
@@ -24,10 +25,14 @@ const RESULTS: [&[u8]; 11] = [
     &[0, 2, 4, 5],
     &[0, 1, 2],
     &[0, 2, 4, 5, 8, 17, 18, 19, 20, 22],
+    &[0, 16, 17, 18, 19, 20],
+    &[0, 4, 8, 20, 21],
 ];
 const FRESH: usize = 8;
 const SAVE: usize = 9;
 const ASSEMBLE: usize = 10;
+const READ_LABEL: usize = 11;
+const WRITE_LABEL: usize = 12;
 
 #[test]
 fn plain_calls_give_what_the_reference_gives() {
@@ -39,6 +44,8 @@ fn plain_calls_give_what_the_reference_gives() {
             FRESH => fresh(&mut random),
             SAVE => save(&mut random),
             ASSEMBLE => assemble(&mut random),
+            READ_LABEL => read_label(&mut random),
+            WRITE_LABEL => write_label(&mut random),
             _ => call_on_state(&mut random, kind),
         };
         seen.insert((kind, result));
@@ -146,6 +153,29 @@ fn assemble(random: &mut Random) -> u8 {
     let given = plain::assemble(wide(random, n), wide(random, b), reach, &slots);
     check(given, expected, expected_state.into());
     given.result
+}
+
+/// Small bytes, so that maps and sets are mostly good ones.
+fn read_label(random: &mut Random) -> u8 {
+    let mut bytes: Vec<u8> = (0..random.below(8))
+        .map(|_| random.byte() & random.byte() & 15)
+        .collect();
+    if let Some(numbers) = bytes.get_mut(1) {
+        *numbers = random.byte() & 0x93 | 0x20;
+    }
+    let given = plain::read_label(&bytes);
+    assert_eq!(given, label::read(&bytes).map(Reading::from), "{bytes:?}");
+    given.err().unwrap_or(0)
+}
+
+fn write_label(random: &mut Random) -> u8 {
+    let (disk, disks, label) = (any_number(random), any_number(random), any_label(random));
+    let mut output = any_bytes(random, 4);
+    let mut expected_output = output.clone();
+    let expected = label::write(disk, disks, &label.into(), &mut expected_output);
+    let given = plain::write_label(&mut output, wide(random, disk), wide(random, disks), &label);
+    assert_eq!((given, output), (expected, expected_output), "{disk} {disks} {label:?}");
+    given.err().unwrap_or(0)
 }
 
 fn check(given: Answer, expected: cabinet::Answer, state: State) {

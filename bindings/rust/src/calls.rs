@@ -3,12 +3,14 @@
 //! What makes it safe: the library keeps no pointer beyond the call, reads and writes a buffer only within the length
 //! given with it, and has no data of its own, so calls may be made from several threads at once. Each pointer and
 //! length below come from one Rust slice, which is valid for the call and which no other argument overlaps, since it is
-//! borrowed. `State` and `Answer` are laid out as C does and hold numbers only, so any bytes are good ones.
+//! borrowed. What goes in and out by value is laid out as C does and holds numbers only, so any bytes are good ones.
 
 use crate::answer::Answer;
+use crate::label::{Label, Reading, Written};
 use crate::state::State;
 
 const _: () = assert!(size_of::<State>() == 28 && size_of::<Answer>() == 32);
+const _: () = assert!(size_of::<Label>() == 3 && size_of::<Reading>() == 40 && size_of::<Written>() == 16);
 
 // SAFETY: these are the library's declarations, a slice being a pointer and then a length; see above.
 unsafe extern "C" {
@@ -38,6 +40,9 @@ unsafe extern "C" {
     safe fn cabinet_power_off(state: State) -> Answer;
     fn cabinet_save(state: State, slots: *mut u8, slots_length: usize) -> Answer;
     fn cabinet_assemble(disks: usize, blocks: usize, online: u8, slots: *const u8, slots_length: usize) -> Answer;
+    fn cabinet_read_label(bytes: *const u8, bytes_length: usize) -> Reading;
+    fn cabinet_write_label(output: *mut u8, output_length: usize, number: usize, disks: usize, label: Label)
+        -> Written;
 }
 
 /// The calls. None asks anything of its caller: each takes whatever it is given, and refuses what does not fit by the
@@ -150,5 +155,27 @@ impl State {
     pub fn assemble(disks: usize, blocks: usize, online: u8, slots: &[u8]) -> Answer {
         // SAFETY: as the module says.
         unsafe { cabinet_assemble(disks, blocks, online, slots.as_ptr(), slots.len()) }
+    }
+}
+
+/// A label as bytes: a map of the fields that are not 0, the disk's number with the number of disks, then these fields.
+impl Label {
+    /// The label that the bytes start with. What follows it is not read.
+    ///
+    /// Refusals: 16 fewer than 2 bytes, 17 a bit of the map that names no field, 18 the disk's number or the number of
+    /// disks, 16 fewer bytes than the map asks, 19 a field of 0, 20 a set.
+    #[inline]
+    pub fn read(bytes: &[u8]) -> Reading {
+        // SAFETY: as the module says.
+        unsafe { cabinet_read_label(bytes.as_ptr(), bytes.len()) }
+    }
+
+    /// Writes the label of disk `number` of `disks` to the front of the output. What is behind it stays.
+    ///
+    /// Refusals: 4 the number of disks, 8 no such disk, 20 a set, 21 the output's length.
+    #[inline]
+    pub fn write(self, output: &mut [u8], number: usize, disks: usize) -> Written {
+        // SAFETY: as the module says.
+        unsafe { cabinet_write_label(output.as_mut_ptr(), output.len(), number, disks, self) }
     }
 }

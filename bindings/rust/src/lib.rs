@@ -3,7 +3,7 @@
 //!
 //! A cabinet keeps the same blocks on up to 8 disks, and a restart finds the disks that are current, whenever the power
 //! went. The caller holds the [`State`] and the disk area, one buffer for all disks; a call takes them and yields an
-//! [`Answer`] with the state after it.
+//! [`Answer`] with the state after it. A [`Label`] is what each disk says of itself, and its bytes.
 //!
 //! ```
 //! use cabinet::{area_length, Refusal, State, BLOCK_SIZE};
@@ -34,9 +34,11 @@
 mod answer;
 #[allow(unsafe_code)]
 mod calls;
+mod label;
 mod refusal;
 mod state;
 
 pub use answer::Answer;
+pub use label::{Label, Reading, Written};
 pub use refusal::Refusal;
-pub use state::{area_length, Label, State, BLOCK_SIZE, MOST_BLOCKS, MOST_DISKS, SLOT_SIZE};
+pub use state::{area_length, State, BLOCK_SIZE, MOST_BLOCKS, MOST_DISKS, SLOT_SIZE};

@@ -6,10 +6,6 @@ use std::fmt;
 macro_rules! refusals {
     ($($number:literal $name:ident $text:literal)*) => {
         /// Why a call was refused. The cases are the paper's; [`Refusal::number`] gives its number for each.
-        ///
-        /// The paper's 21 is not among them: it belongs to the writing of one label into a buffer of its own, which no
-        /// call of this crate does. 16 is, since [`State::assemble`](crate::State::assemble) passes on what the reader
-        /// of labels refuses; but a slot has room for any label, so no call gives it.
         #[derive(Clone, Copy, Debug, PartialEq, Eq, Hash)]
         pub enum Refusal {
             $(#[doc = concat!($number, ": ", $text, ".")] $name,)*
@@ -63,9 +59,10 @@ refusals! {
     15 PowerLost "the power went before the last store"
     16 LabelCutShort "there are fewer bytes than the label has"
     17 LabelMap "a bit that names no field stands in the label's map"
-    18 LabelPlace "the label's disk number or number of disks is not its slot's"
+    18 LabelPlace "the label's disk number or number of disks cannot be, or is not its slot's"
     19 LabelEmptyField "a field that the label's map names is 0"
     20 LabelSet "a set of the label names a disk that is not there, or omits its own"
+    21 NoRoom "the output is shorter than the label"
     22 NoSuchRegion "a dirty bit of the label names no region"
 }
 
@@ -101,7 +98,7 @@ mod tests {
     fn the_cases_are_the_papers() {
         let is_known = |&number: &u8| !matches!(Refusal::of(number), Refusal::Unknown(_));
         let known: Vec<u8> = (0..=255).filter(is_known).collect();
-        let papers: Vec<u8> = (1..=20).chain([22]).collect();
+        let papers: Vec<u8> = (1..=22).collect();
         assert_eq!(known, papers);
     }
 

@@ -1,5 +1,7 @@
 //! The cabinet's state and its size.
 
+use crate::label::Label;
+
 /// The bytes of a block.
 pub const BLOCK_SIZE: usize = 64;
 /// The bytes of a disk's slot in the saved form.
@@ -18,18 +20,6 @@ pub const fn area_length(disks: usize, blocks: usize) -> Option<usize> {
     } else {
         None
     }
-}
-
-/// A disk's label. A set of disks is one byte, bit d for disk d.
-#[repr(C)]
-#[derive(Clone, Copy, Debug, Default, PartialEq, Eq, Hash)]
-pub struct Label {
-    /// The committed set C; 0 if the disk has never been a member.
-    pub committed: u8,
-    /// The tentative set T; 0 for none.
-    pub tentative: u8,
-    /// The dirty map, bit r for region r.
-    pub dirty: u8,
 }
 
 /// The state of a cabinet. The caller keeps it, beside the disk area, and gives each call the one that the last call

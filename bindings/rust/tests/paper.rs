@@ -101,15 +101,3 @@ fn a_saved_cabinet_assembles_to_the_one_after_a_cut() {
     assert_eq!(assembled.outcome(), Ok(()));
     assert_eq!(assembled.state, cabinet.state.power_off().state);
 }
-
-#[test]
-fn h12_a_blank_disk() {
-    let blank = State {
-        disks: 1,
-        blocks: 1,
-        ..State::default()
-    };
-    let mut slots = [0xee; 5];
-    assert_eq!(blank.save(&mut slots).outcome(), Ok(()));
-    assert_eq!(slots, [0, 0x10, 0, 0, 0]);
-}

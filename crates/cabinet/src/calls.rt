@@ -18,7 +18,7 @@ pub fn apply(call: Call, s: State, area: &mut [u8], bytes: &[u8], output: &mut [
         Call::Read { block } => storage::read(s, area, block, output),
         Call::Write { block, budget } => storage::write(s, area, block, bytes, budget),
         Call::Join { disk, budget } => storage::join(s, area, disk, budget),
-        Call::Clean { budget } => storage::clean(s, budget),
+        Call::Clean { budget } => cleaning::clean(s, budget),
         Call::Restart { budget } => recovery::restart(s, area, budget),
         Call::Detach { disk } => detach(s, disk),
         Call::Attach { disk } => attach(s, disk),

@@ -90,6 +90,12 @@ commandOfWords ((x ∷ y ∷ w) ∷ later) = Bad
 abbrev pub lineMost : ℕ
 lineMost = 32
 
--- "Any other line, or one over 32 bytes before its line feed, gives 99 and changes nothing"
+-- "Any other line, or one over 32 bytes before its line feed"
 unfoldable pub commandOf : List ℕ → Command
 commandOf line = cond (ltb lineMost (length line)) Bad (commandOfWords (words line))
+
+-- "gives 99 and changes nothing": the number that a command gives by itself; 0 where a call's own follows
+abbrev pub commandNumber : Command → ℕ
+commandNumber (Format n b) = 0
+commandNumber (Perform call byte) = 0
+commandNumber Bad = 99

@@ -13,6 +13,7 @@ mod scanner;
 pub const LINE_MOST: usize = 32;
 
 // A fresh, with its n and b; a call of the list, and for a write the byte that fills its block; or any other line.
+// `commandNumber` of specs/Commands.antt says which number each gives by itself.
 pub enum Command {
     Format { disks: u16, blocks: u16 },
     Perform { call: Call, byte: u8 },

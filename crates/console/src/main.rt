@@ -1,7 +1,6 @@
 // The cabinet program: it reads a block of input, has the shell serve it, and writes the replies.
 ghost use mathlib.Core.Path.{_≡_};
 ghost use Prim.Native.Nat.{_≤_};
-ghost use lib.ListN.{length};
 ghost use Rattle.shell.specs.Dialogue.{lineBuffer};
 ghost use Rattle.console.specs.Buffers.{Room};
 use libc::STDIN_FILENO;
@@ -28,29 +27,6 @@ struct Served {
     more: bool,
 }
 
-// Has the shell take what a read gave. The end of the input ends a line that has begun; a read that failed does not,
-// since the line may be cut short.
-fn take_input(
-    h: Shell,
-    got: isize,
-    block: &[u8],
-    line: &mut [u8],
-    memory: &mut [u8],
-    out: &mut [u8],
-) -> Shell
-    requires { ⌜ (h .buffered ≤ lineBuffer) × (h .used ≡ 0) × Room (now block) (now line) (now out) ⌝ }
-    ensures { λ r. ⌜ (r .buffered ≤ lineBuffer) × (r .used ≤ length (now (out .exit))) ⌝ }
-{
-    if got < 0 {
-        return h;
-    }
-    if got == 0 {
-        return shell::finish(h, line, memory, out);
-    }
-    let n = io::count(got, block);
-    shell::serve(&block[..n], h, line, memory, out)
-}
-
 // One read, and the replies to what came, so that a person who types has them before the next read. Where they cannot
 // be written, nobody reads any more, and the program ends.
 fn serve_once(
@@ -64,7 +40,7 @@ fn serve_once(
     ensures { λ r. ⌜ (r .shell .buffered ≤ lineBuffer) × (r .shell .used ≡ 0) ⌝ }
 {
     let got = libc::read(STDIN_FILENO, block);
-    let after = take_input(h, got, block, line, memory, out);
+    let after = program::hear(got, block, h, line, memory, out);
     let used = after.used;
     let written = io::write_all(STDOUT_FILENO, &out[..used]);
     let state = after.state;

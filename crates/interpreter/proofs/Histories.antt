@@ -1,7 +1,7 @@
 -- Commands are histories. Assumes nothing.
 use mathlib.Core.Path.{_≡_, refl}
 use mathlib.Core.Bool.{cond}
-use mathlib.Core.List.{List, [], _∷_}
+use mathlib.Core.List.{List, [], _∷_, _++_}
 use Prim.Native.Nat.{ℕ}
 use borrow.Author.Tests.{eqb-true}
 use Rattle.sets.proofs.Tests.{Test, test, passes, fails}
@@ -14,7 +14,7 @@ use Rattle.interpreter.specs.Execution.{Machine, executed}
 use Rattle.interpreter.specs.Histories as history
 use Rattle.interpreter.proofs.Tracking.{Tracks}
 use Rattle.interpreter.proofs.Formatting.{good-reply, good-tracked, refused-machine}
-use Rattle.interpreter.proofs.Steps.{zero-tracked, call-tracked, call-replies}
+use Rattle.interpreter.proofs.Steps.{zero-tracked, zero-replies, call-tracked, call-replies}
 
 bad-tracked : (t : history.SinceFormat) (m : Machine) → Tracks t m → Tracks t (executed Bad m .machine)
 unfolding executed
@@ -33,6 +33,19 @@ command-tracked (Perform call byte) (history.calls n b earlier) m h =
     call-tracked call byte m (h .room) n b earlier (h .left .0) (h .left .1)
 command-tracked Bad t m h = bad-tracked t m h
 
+-- one command more
+pub machine-last : (commands : List Command) (x : Command) (m : Machine)
+    → history.machineAfter (commands ++ (x ∷ [])) m ≡ executed x (history.machineAfter commands m) .machine
+unfolding history.machineAfter
+machine-last [] x m = refl
+machine-last (y ∷ later) x m = machine-last later x (executed y m .machine)
+
+pub since-last : (commands : List Command) (x : Command) (t : history.SinceFormat)
+    → history.sinceFormat (commands ++ (x ∷ [])) t ≡ history.withCommand x (history.sinceFormat commands t)
+unfolding history.sinceFormat
+since-last [] x t = refl
+since-last (y ∷ later) x t = since-last later x (history.withCommand y t)
+
 commands-tracked : (commands : List Command) (t : history.SinceFormat) (m : Machine) → Tracks t m
     → Tracks (history.sinceFormat commands t) (history.machineAfter commands m)
 unfolding history.sinceFormat history.machineAfter
@@ -48,6 +61,7 @@ module _ (t : history.SinceFormat) (m : Machine) (h : Tracks t m) where
 conforms : (t : history.SinceFormat) (m : Machine) → Tracks t m → history.Conforms t m
 conforms t m h = record {
   left = h .left;
+  refused = λ is call byte. zero-replies call byte m (h .room) (rw is at (h .left));
   replies =
       λ n b earlier is call byte. let (g, e) = left-here t m h n b earlier is in
       call-replies call byte m (h .room) n b earlier g e;

@@ -1,19 +1,20 @@
 -- The disk area at the front of the memory: the part that is lent to a call, and what the call leaves. Assumes nothing.
-use mathlib.Core.Path.{_≡_, refl, sym, _∙_}
+use mathlib.Core.Path.{_≡_, refl, sym, ap, _∙_}
 use mathlib.Core.List.{List, [], _++_}
-use Prim.Native.Nat.{ℕ, min}
+use Prim.Native.Nat.{ℕ, min, _+_, _≤_, _<_}
 use native.Mathlib.Omega.{arith}
 use lib.Dec.{ltb}
-use lib.ListN.{length, take, drop, getD, replicate, drop-of-length-le}
-use lib.Seq.{take-all, length-take-le}
+use lib.ListN.{length, take, drop, getD, replicate, length-take, length-drop, take-append-drop, drop-of-length-le}
+use lib.Seq.{take-all, take-append-le, drop-append-le, length-take-le}
 use borrow.Author.Tests.{ltb-true, ltb-false}
 use Rattle.sets.proofs.Tests.{Test, test, passes, fails}
 use Rattle.protocol.specs.declared.Answer.{Answer}
 use Rattle.protocol.specs.declared.Call.{Call}
 use Rattle.protocol.specs.declared.State.{State}
-use Rattle.protocol.specs.Geometry.{areaSize, blockSize}
+use Rattle.protocol.specs.Geometry.{areaSize, blockSize, place, block}
 use Rattle.protocol.specs.Calls.{formatOutcome}
 use Rattle.protocol.specs.History.{Cabinet, perform}
+use Rattle.protocol.proofs.Blocks.{block-length}
 use Rattle.interpreter.specs.Execution.{machineOf, replyTo, keptState, formatExecuted, callReply, callExecuted}
 use Rattle.interpreter.proofs.FirstByte.{first-byte}
 
@@ -38,6 +39,21 @@ module _ (size : ℕ) (memory : List ℕ) where
 
   pub lent-length : (end : ℕ) → end ≡ min size (length memory) → end ≡ length (take end memory)
   lent-length end e = sym (length-take-le end memory (omega (arith, e)))
+
+-- a block of the disk area is where it was, in a memory that has the area at its front
+pub block-in-memory : (n b : ℕ) (memory : List ℕ) → length (take (areaSize n b) memory) ≡ areaSize n b
+    → (d k : ℕ) → d < n → k < b → block b memory d k ≡ block b (take (areaSize n b) memory) d k
+unfolding block
+block-in-memory n b memory size d k hd hk =
+    let area = take (areaSize n b) memory in
+    let rest = drop (areaSize n b) memory in
+    let at = place b d k in
+    let whole = block-length n b area size d k hd hk in
+    let many = length-take blockSize (drop at area) in
+    let room : at + blockSize ≤ length area = omega (arith, whole, many, length-drop at area) in
+    ap (λ xs. take blockSize (drop at xs)) (sym (take-append-drop (areaSize n b) memory))
+    ∙ ap (take blockSize) (drop-append-le at area rest (omega arith))
+    ∙ take-append-le blockSize (drop at area) rest (omega (arith, whole, many))
 
 pub format-leaves : (n b : ℕ) (s : State) (memory : List ℕ) (end : ℕ) {area : List ℕ} {a : Answer}
     → end ≡ min (areaSize n b) (length memory)

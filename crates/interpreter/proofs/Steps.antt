@@ -1,6 +1,6 @@
 -- A call among the commands: one more of the list, or none while the state is all zero. Assumes nothing.
 use mathlib.Core.Path.{_≡_, refl, sym, ap, _∙_}
-use mathlib.Core.Bool.{Bool, true, false}
+use mathlib.Core.Bool.{Bool, true, false, and-false}
 use mathlib.Core.List.{List, [], _∷_, _++_}
 use Prim.Native.Nat.{ℕ, _≤_}
 use native.Mathlib.Omega.{arith}
@@ -12,18 +12,18 @@ use Rattle.protocol.specs.declared.Call.{Call}
 use Rattle.protocol.specs.declared.Call.the-variants.{Read, Write, Join, Clean, Restart, Detach, Attach, PowerOff}
 use Rattle.protocol.specs.Geometry.{areaSize}
 use Rattle.protocol.specs.Soundness.{inRange, sound}
-use Rattle.protocol.specs.Outcomes.{Outcome, refusedOr}
+use Rattle.protocol.specs.Outcomes.{Outcome, outcome, refusedOr}
 use Rattle.protocol.specs.Calls.{unsound, zeroArea, formatOutcome, blockRefusals, readOutcome, writeOutcome}
 use Rattle.protocol.specs.Calls.{joinRefusals, joinOutcome, cleanRefusals, cleanOutcome, restartRefusals}
 use Rattle.protocol.specs.Calls.{restartOutcome, reachRefusals, detachOutcome, attachOutcome, powerOffOutcome}
 use Rattle.protocol.specs.States.{zeroState}
 use Rattle.protocol.specs.History.{Step, perform, outcomeOf, cabinetOf}
 use Rattle.protocol.specs.Demand3.{cabinetAfter}
-use Rattle.protocol.proofs.Outcomes.{refused-or}
 use Rattle.protocol.proofs.Formatting.{format-done}
 use Rattle.protocol.proofs.History.{ran-last}
 use Rattle.commands.specs.declared.Command.the-variants.{Perform}
 use Rattle.interpreter.specs.Execution.{Machine, machineOf, cabinetIn, stepOf, callExecuted, callReply, executed}
+use Rattle.interpreter.specs.Execution.{replyTo, isRead, firstByte}
 use Rattle.interpreter.specs.Histories as history
 use Rattle.interpreter.proofs.Tracking.{largest, in-memory, area-back, memory-kept, fits, Tracks}
 
@@ -33,17 +33,13 @@ unfolding sound zeroState inRange outside
 zero-unsound = refl
 
 module _ (bytes output area : List ℕ) where
-  abbrev Unchanged : Outcome → Type 0
-  Unchanged o = (o .answer .state ≡ zeroState) × (o .area ≡ area)
-
   refuses : (later : List (ℕ × Bool)) (done : Outcome)
-      → Unchanged (refusedOr (unsound zeroState ∷ later) zeroState area output done)
-  unfolding firstOf
-  refuses later done =
-      refused-or (unsound zeroState ∷ later) zeroState area output done Unchanged (λ ne. (refl, refl))
-      (λ z. absurd (let one : _≡_ {A = ℕ} 1 0 = rw zero-unsound at z in omega (arith, one)))
+      → refusedOr (unsound zeroState ∷ later) zeroState area output done ≡ outcome 1 0 zeroState area output
+  unfolding firstOf refusedOr
+  refuses later done = rw zero-unsound
 
-  zero-stays : (call : Call) → Unchanged (perform call bytes output (record { state = zeroState; area = area }))
+  zero-stays : (call : Call)
+      → perform call bytes output (record { state = zeroState; area = area }) ≡ outcome 1 0 zeroState area output
   unfolding perform readOutcome writeOutcome joinOutcome cleanOutcome restartOutcome detachOutcome attachOutcome
       powerOffOutcome blockRefusals joinRefusals cleanRefusals restartRefusals reachRefusals
   zero-stays (Read k) = refuses _ _
@@ -59,17 +55,24 @@ module _ (call : Call) (byte : ℕ) where
   abbrev x : Step
   x = stepOf call byte
 
-  zero-machine : (memory : List ℕ)
-      → executed (Perform call byte) (machineOf zeroState memory) .machine ≡ machineOf zeroState memory
-  unfolding executed callExecuted
-  zero-machine memory =
+  zero-executed : (memory : List ℕ)
+      → executed (Perform call byte) (machineOf zeroState memory)
+      ≡ record { machine = machineOf zeroState memory; reply = replyTo 1 0 zeroState 0 }
+  unfolding executed callExecuted callReply firstByte
+  zero-executed memory =
       let size = areaSize (zeroState .disks) (zeroState .blocks) in
-      let stays = zero-stays (x .bytes) (x .output) (take size memory) call in
-      rw (stays .0, stays .1, take-append-drop size memory)
+      rw (
+        zero-stays (x .bytes) (x .output) (take size memory) call,
+        take-append-drop size memory,
+        and-false (isRead call),
+      )
 
   module _ (m : Machine) (room : length (m .memory) ≡ largest) where
     pub zero-tracked : m .state ≡ zeroState → Tracks history.unformatted (executed (Perform call byte) m .machine)
-    zero-tracked e = rw (e, zero-machine (m .memory)) (record { left = refl; room = room })
+    zero-tracked e = rw (e, zero-executed (m .memory)) (record { left = refl; room = room })
+
+    pub zero-replies : m .state ≡ zeroState → executed (Perform call byte) m .reply ≡ replyTo 1 0 zeroState 0
+    zero-replies e = rw (e, zero-executed (m .memory))
 
     module _ (n b : ℕ) (earlier : List Step) (g : history.good n b ≡ true)
         (e : cabinetIn m ≡ cabinetAfter n b (zeroArea n b) earlier) where

@@ -15,6 +15,7 @@ use Rattle.protocol.specs.Calls.{formatOutcome}
 use Rattle.protocol.specs.History.{Step, Cabinet, outcomeOf}
 use Rattle.commands.specs.declared.Command.{Command}
 use Rattle.commands.specs.declared.Command.the-variants.{Format, Perform, Bad}
+use Rattle.commands.specs.Commands.{commandNumber}
 use Rattle.replies.specs.declared.Reply.{Reply}
 use Rattle.interpreter.specs.declared.Executed as code
 
@@ -104,4 +105,4 @@ callExecuted call byte m =
 unfoldable pub executed : Command → Machine → Executed
 executed (Format n b) m = formatExecuted n b m
 executed (Perform call byte) m = callExecuted call byte m
-executed Bad m = record { machine = m; reply = replyTo 99 0 (m .state) 0 }
+executed Bad m = record { machine = m; reply = replyTo (commandNumber Bad) 0 (m .state) 0 }

@@ -45,7 +45,7 @@ sinceFormat (x ∷ later) t = sinceFormat later (withCommand x t)
 
 -- ---- and what they say of the program
 
--- "Before the first good `f` the state is all zero"; after it, the cabinet is what the list leaves.
+-- before the first good `f` the state is all zero; after it, the cabinet is what the list leaves
 abbrev pub Leaves : SinceFormat → Machine → Type 0
 Leaves unformatted m = m .state ≡ zeroState
 Leaves (calls n b earlier) m = (good n b ≡ true) × (cabinetIn m ≡ cabinetAfter n b (zeroArea n b) earlier)
@@ -57,6 +57,9 @@ replyAfter n b earlier call byte =
 
 pub record Conforms (t : SinceFormat) (m : Machine) : Type 0 where
   pub left : Leaves t m
+  -- "Before the first good `f` the state is all zero and calls give 1."
+  pub refused : t ≡ unformatted → (call : Call) (byte : ℕ)
+      → executed (Perform call byte) m .reply ≡ replyTo 1 0 zeroState 0
   -- a call's reply is what that call of the list yields
   pub replies : (n b : ℕ) (earlier : List Step) → t ≡ calls n b earlier → (call : Call) (byte : ℕ)
       → executed (Perform call byte) m .reply ≡ replyAfter n b earlier call byte

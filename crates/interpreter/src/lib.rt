@@ -9,6 +9,7 @@ use protocol::Answer;
 use protocol::Call;
 use protocol::State;
 use protocol::geometry::BLOCK_SIZE;
+use refusals::numbers::BAD_LINE;
 use replies::Reply;
 
 // What a command leaves beside the memory: the cabinet's state, and the reply.
@@ -16,9 +17,6 @@ pub struct Executed {
     pub state: State,
     pub reply: Reply,
 }
-
-// The number that answers a line that is no command.
-const BAD_LINE: u8 = 99;
 
 // How much of the memory is the disk area of so many disks and blocks. No more than there is: a call refuses numbers
 // for which that is too little.

@@ -7,7 +7,7 @@ use lib.ListN.{length, length-append}
 use Rattle.label.specs.declared.Form.{Form}
 use Rattle.label.specs.Form.{Roomy, narrow}
 use Rattle.label.specs.Bytes.{mapByte, fieldBytes, encode, longestLabel}
-use Rattle.label.specs.Codec.{AreBytes, Writable, Readable, WrittenBytes, Lengths, Codec}
+use Rattle.label.specs.Codec.{AreBytes, Writable, Readable, WrittenBytes, Lengths, FormsAreCodecs, NarrowIsCodec}
 use Rattle.label.proofs.Accepting.{accepted, writer-accepts}
 use Rattle.label.proofs.Fields.{present-le, length-field-le, field-bytes}
 use Rattle.label.proofs.Places.{place-bytes}
@@ -48,7 +48,7 @@ lengths f d n l =
       length-field-le 1 (l .dirty),
     )
 
-pub codec : (f : Form) → Roomy f → Codec f
+pub codec : FormsAreCodecs
 unfolding Writable Readable
 codec f r = record {
   written-reads = written-reads f r;
@@ -71,5 +71,5 @@ codec f r = record {
 narrow-roomy : Roomy narrow
 narrow-roomy = omega arith
 
-pub narrow-codec : Codec narrow
+pub narrow-codec : NarrowIsCodec
 narrow-codec = codec narrow narrow-roomy

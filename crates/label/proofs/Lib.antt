@@ -7,4 +7,3 @@ pub mod WrittenRead
 pub mod ReadWritten
 pub mod Prefix
 pub mod Codec
-pub mod Stores

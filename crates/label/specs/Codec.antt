@@ -5,6 +5,7 @@ use mathlib.Core.List.{List, _++_}
 use Prim.Native.Nat.{ℕ, _≤_, _<_}
 use lib.ListN.{length, getD, take}
 use Rattle.label.specs.declared.Form.{Form}
+use Rattle.label.specs.Form.{Roomy, narrow}
 use Rattle.label.specs.Bytes.{encode, longestLabel, labelLength}
 use Rattle.label.specs.Reading.{reading, found}
 use Rattle.label.specs.Writing.{writeRefusal}
@@ -58,3 +59,13 @@ pub record Codec (f : Form) : Type 0 where
   pub readable-iff-writable : ReadableIffWritable f
   pub written-bytes : WrittenBytes f
   pub lengths : Lengths f
+
+-- ---- the claims
+
+-- of every form that can hold its labels ..
+abbrev pub FormsAreCodecs : Type 0
+FormsAreCodecs = (f : Form) → Roomy f → Codec f
+
+-- .. and so of document 01's
+abbrev pub NarrowIsCodec : Type 0
+NarrowIsCodec = Codec narrow

@@ -4,12 +4,12 @@ ghost use Rattle.label.specs.Bytes.{blank};
 use regions::RegionMap;
 use sets::Mask;
 
-pub mod narrow;
-mod reader;
 mod rules;
-mod writer;
 
+pub use rules::field_length;
+pub use rules::label_length;
 pub use rules::outside;
+pub use rules::wrong_sets;
 
 // "Each disk has a label: the committed set C, the tentative set T (0 means none), and the dirty map, bit r for region
 // r. C of 0 means the disk has never been a member."
@@ -31,6 +31,7 @@ pub fn blank() -> Label
 }
 
 // What reading yields. Refused, everything but the refusal's number is 0; done, that number is.
+#[repr(C)]
 pub struct Reading {
     pub refusal: u8,
     pub number: usize,
@@ -40,6 +41,7 @@ pub struct Reading {
 }
 
 // What writing yields, beside the bytes. Refused, the length is 0; done, the refusal's number is.
+#[repr(C)]
 pub struct Written {
     pub refusal: u8,
     pub length: usize,

@@ -21,14 +21,14 @@ fn wrong_set(set: Mask, d: usize, n: usize) -> bool
     (set != 0) & (!sets::below(set, n) | !sets::has(set, d))
 }
 
-pub(crate) fn wrong_sets(label: Label, d: usize, n: usize) -> bool
+pub fn wrong_sets(label: Label, d: usize, n: usize) -> bool
     ensures { λ r. ⌜ r ≡ wrongSets label d n ⌝ }
 {
     wrong_set(label.committed, d, n) | wrong_set(label.tentative, d, n)
 }
 
 // How many bytes a field takes, by its bit of the map.
-pub(crate) fn field_length(width: usize, bit: u8) -> usize
+pub fn field_length(width: usize, bit: u8) -> usize
     requires { ⌜ bit < 2 ⌝ }
     ensures { λ r. ⌜ (r ≡ width * bit) × (r ≤ width) ⌝ }
 {
@@ -36,7 +36,7 @@ pub(crate) fn field_length(width: usize, bit: u8) -> usize
 }
 
 // The length of a label with this map.
-pub(crate) fn label_length(form: Form, map: u8) -> usize
+pub fn label_length(form: Form, map: u8) -> usize
     requires { ⌜ form .width ≤ 2 ⌝ }
     ensures { λ r. ⌜ r ≡ labelLength form map ⌝ }
 {

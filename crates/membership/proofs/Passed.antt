@@ -1,23 +1,12 @@
--- What calls that are not refused know of their numbers and buffers. Assumes nothing.
-use mathlib.Core.Path.{_≡_, refl}
-use mathlib.Core.List.{List}
+-- What a lose or a return that is not refused knows of its number. Assumes nothing.
+use mathlib.Core.Path.{_≡_}
 use Prim.Native.Nat.{ℕ, _<_}
 use native.Mathlib.Omega.{arith}
-use lib.ListN.{length, replicate}
-use borrow.Author.Tests.{eqb-true, not-false}
 use Rattle.refusals.specs.Refusals.{firstOf}
-use Rattle.refusals.proofs.Order.{none-at}
 use Rattle.protocol.specs.declared.State.{State}
-use Rattle.protocol.specs.Geometry.{mostDisks, areaSize}
-use Rattle.protocol.specs.Calls.{formatRefusals, zeroArea, reachRefusals}
+use Rattle.protocol.specs.Geometry.{mostDisks}
+use Rattle.protocol.specs.Calls.{reachRefusals}
 use Rattle.protocol.proofs.NotRefused.{reach-passed}
 
 pub disk-known : (s : State) (d : ℕ) → firstOf (reachRefusals s d) ≡ 0 → d < mostDisks
 disk-known s d e = let pass = reach-passed s d e in omega (arith, pass .known, pass .fit .range .disks)
-
--- an area of the right size, cleared, has all blocks zero
-pub cleared : (n b : ℕ) (area : List ℕ) → firstOf (formatRefusals n b area) ≡ 0
-    → replicate (length area) 0 ≡ zeroArea n b
-unfolding formatRefusals zeroArea
-cleared n b area e =
-    rw (eqb-true (length area) (areaSize n b) (not-false _ (none-at (formatRefusals n b area) refl e 2)))

@@ -1,42 +1,15 @@
-// "Each refusal falls in the order of its paragraph, on its condition only": a line for each. Of a buffer
-// they are given the length.
+// "Each refusal falls in the order of its paragraph, on its condition only": a line for each.
 ghost use mathlib.Core.Path.{_≡_};
-ghost use mathlib.Core.List.{List, [], _∷_};
-ghost use Prim.Native.Nat.{ℕ};
-ghost use lib.ListN.{length};
+ghost use mathlib.Core.List.{[], _∷_};
 ghost use Rattle.refusals.specs.Refusals.{firstOf};
-ghost use Rattle.protocol.specs.Calls.{unsound, formatRefusals, reachRefusals};
+ghost use Rattle.protocol.specs.Calls.{unsound, reachRefusals};
 use protocol::State;
 use refusals::PASSED;
 use refusals::Refusal;
 use refusals::first_of;
-use refusals::numbers::BLOCK_COUNT;
-use refusals::numbers::BUFFER_LENGTH;
-use refusals::numbers::DISK_COUNT;
 use refusals::numbers::NO_SUCH_DISK;
 use refusals::numbers::UNSOUND;
-use state::sound;
-use state::wrong_block_count;
-use state::wrong_disk_count;
-
-// "Fresh: 4, n outside 1 to 8. 5, b outside 1 to 64. 2."
-pub(crate) fn format_refusal(disks: usize, blocks: usize, area: usize) -> u8
-    ensures { λ r. ⌜ ((held : List ℕ) → length held ≡ area → r ≡ firstOf (formatRefusals disks blocks held)) ⌝ }
-{
-    let disk_count = wrong_disk_count(disks);
-    let block_count = wrong_block_count(blocks);
-    let fits = area::fits(disks, blocks, area);
-    first_of([
-        Refusal(DISK_COUNT, disk_count),
-        Refusal(BLOCK_COUNT, block_count),
-        Refusal(BUFFER_LENGTH, !fits),
-        PASSED,
-        PASSED,
-        PASSED,
-        PASSED,
-        PASSED,
-    ])
-}
+use soundness::sound;
 
 // "Lose and return: 8."
 pub(crate) fn reach_refusal(s: State, d: usize) -> u8

@@ -1,4 +1,4 @@
-// Lose and return: "Lose, return and cut change only R or the power condition." Given no buffer, they leave any.
+// Lose and return. Given no buffer, they leave any.
 ghost use mathlib.Core.Path.{_≡_};
 ghost use mathlib.Core.List.{List};
 ghost use Prim.Native.Nat.{ℕ, _<_};

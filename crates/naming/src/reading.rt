@@ -1,27 +1,20 @@
-// What a naming says: nothing, several sets, or the one.
+// What a naming is to a restart: the paper's number, and the set.
 ghost use mathlib.Core.Path.{_≡_};
-ghost use Rattle.protocol.specs.Naming.{isNone, isSeveral, theSet};
+ghost use Rattle.protocol.specs.Naming.{foundNumber, theSet};
 ghost use Rattle.naming.specs.Meaning.{foundOf};
 use crate::Naming;
+use refusals::numbers::NO_SET;
+use refusals::numbers::SEVERAL_SETS;
 use sets::Mask;
 
-pub fn is_nothing(found: Naming) -> bool
-    ensures { λ r. ⌜ r ≡ isNone (foundOf found) ⌝ }
+// 0 where one set is named.
+pub fn refusal(found: Naming) -> u8
+    ensures { λ r. ⌜ r ≡ foundNumber (foundOf found) ⌝ }
 {
     match found {
-        Naming::Nothing => true,
-        Naming::One(_) => false,
-        Naming::Several => false,
-    }
-}
-
-pub fn is_several(found: Naming) -> bool
-    ensures { λ r. ⌜ r ≡ isSeveral (foundOf found) ⌝ }
-{
-    match found {
-        Naming::Nothing => false,
-        Naming::One(_) => false,
-        Naming::Several => true,
+        Naming::Nothing => NO_SET,
+        Naming::One(_) => 0,
+        Naming::Several => SEVERAL_SETS,
     }
 }
 

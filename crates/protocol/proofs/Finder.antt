@@ -15,7 +15,7 @@ use Rattle.protocol.specs.Naming.{Stage, first, second, third, Found, on
 use Rattle.protocol.specs.Naming.{Candidate, Exactly, no-set, one-set, several-sets, stages, candidate}
 use Rattle.protocol.specs.Finder.{tried, another, among, find, FindsNamed}
 use Rattle.protocol.proofs.Naming.{candidate-if, candidate-below, if-candidate}
-use Rattle.protocol.proofs.Naming.{exactly-map, decide-right, named-as-defined}
+use Rattle.protocol.proofs.Naming.{exactly-map, decide-right, decides-same, named-names}
 
 module _ (n online : ℕ) (labels : List Label) (known : online < 2 ^ n) (stage : Stage) where
   abbrev triedAt : ℕ → ℕ
@@ -84,5 +84,6 @@ module _ (n online : ℕ) (labels : List Label) (known : online < 2 ^ n) (stage 
 pub finds-named : FindsNamed
 unfolding find
 finds-named n online labels known =
-    named-as-defined n online labels known .only _
+    decides-same
     (decide-right online labels (λ stage. among stage n online labels n) (among-right n online labels known) stages)
+    (named-names n online labels known)

@@ -90,4 +90,4 @@ module _ {P : Store → Type 0} where
   unfolding resyncs resync
   each-resync n b labels s c x =
       each-ascending (regions b) _ (λ r i. each-if (some n s (λ d. isDirty labels d r))
-      (λ z. each-append (each-copy n b s r c) (each-clear n s r (λ d l m. x d r l))))
+      (λ z. search (each-append, each-copy n b s r c, each-clear n s r (λ d l m. x d r l))))

@@ -177,23 +177,25 @@ module _ (online : ℕ) (labels : List Label) (found : Stage → Found)
       go several e ih = here several-not-none e
 
 -- .. and they have no other
-decides-same : {online : ℕ} {labels : List Label} {stages : List Stage} {f g : Found} → Decides online labels stages f
-    → Decides online labels stages g → f ≡ g
+pub decides-same : {online : ℕ} {labels : List Label} {stages : List Stage} {f g : Found}
+    → Decides online labels stages f → Decides online labels stages g → f ≡ g
 decides-same (here a p) (here b q) = exactly-same p q
 decides-same (here a p) (further q h) = absurd (a (exactly-same p q))
 decides-same (further p h) (here b q) = absurd (b (exactly-same q p))
 decides-same (further p h) (further q k) = decides-same h k
 decides-same nowhere nowhere = refl
 
-pub named-as-defined : (n online : ℕ) (labels : List Label) → online < 2 ^ n → NamedAsDefined n online labels
+pub named-names : (n online : ℕ) (labels : List Label) → online < 2 ^ n → Names online labels (named n online labels)
 unfolding named
-named-as-defined n online labels known =
-    let right = decide-right online labels (λ stage. foundIn (candidates stage n online labels))
-    (stage-right n online labels known) stages in
-    record { answers = right; only = λ f h. decides-same h right }
+named-names n online labels known =
+    decide-right online labels (λ stage. foundIn (candidates stage n online labels)) (stage-right n online labels known)
+    stages
 
--- what a restart of a sound state names
+-- what a restart of a sound state finds
 pub found-names : (s : State) → Sound s → Names (s .online) (s .labels) (foundBy s)
 unfolding foundBy
 found-names s fit =
-    named-as-defined (s .disks) (s .online) (s .labels) (below-pow (s .online) (s .disks) .0 (fit .online)) .answers
+    named-names (s .disks) (s .online) (s .labels) (below-pow (s .online) (s .disks) .0 (fit .online))
+
+pub named-as-defined : NamedAsDefined
+named-as-defined = record { answers = found-names; only = λ s fit f h. decides-same h (found-names s fit) }

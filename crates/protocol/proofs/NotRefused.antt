@@ -3,6 +3,7 @@ use mathlib.Core.Path.{_≡_, refl}
 use mathlib.Core.Bool.{false, not}
 use mathlib.Core.List.{List}
 use Prim.Native.Nat.{ℕ, _<_}
+use lib.Dec.{eqb}
 use lib.ListN.{length}
 use borrow.Author.Tests.{eqb-true, ltb-true, not-false}
 use Rattle.sets.proofs.Tests.{clash, positive}
@@ -14,7 +15,7 @@ use Rattle.protocol.specs.declared.State.{State}
 use Rattle.protocol.specs.Geometry.{blockSize, areaSize}
 use Rattle.protocol.specs.States.{isRunning, currentOf, live}
 use Rattle.protocol.specs.Soundness.{Sound, sound}
-use Rattle.protocol.specs.Naming.{Stage, Found, none, one, several, Candidate, isNone, isSeveral, theSet, foundBy}
+use Rattle.protocol.specs.Naming.{Stage, Found, none, one, several, Candidate, foundNumber, theSet, foundBy}
 use Rattle.protocol.specs.Calls.{wrongArea, blockRefusals, joinRefusals}
 use Rattle.protocol.specs.Calls.{cleanRefusals, restartRefusals, reachRefusals}
 use Rattle.protocol.proofs.Soundness.{test-agrees}
@@ -89,7 +90,7 @@ clean-passed s e =
     let no = none-at (cleanRefusals s) refl e in
     record { fit = sound-if s (no 0); runs = runs-if (s .power) (no 1) }
 
-names-one-if : (f : Found) → isNone f ≡ false → isSeveral f ≡ false → f ≡ one (theSet f)
+names-one-if : (f : Found) → eqb (foundNumber f) 13 ≡ false → eqb (foundNumber f) 14 ≡ false → f ≡ one (theSet f)
 names-one-if none p q = clash refl p
 names-one-if (one x) p q = refl
 names-one-if several p q = clash refl q

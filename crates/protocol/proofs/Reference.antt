@@ -2,8 +2,10 @@
 use mathlib.Core.Path.{_≡_, refl, sym, _∙_}
 use mathlib.Core.Bool.{true, false, cond, _||_, or-assoc}
 use mathlib.Core.List.{List, [], _∷_, _++_}
-use Prim.Native.Nat.{ℕ, _^_, _<_}
-use lib.ListN.{take}
+use Prim.Native.Nat.{ℕ, suc, _+_, _-_, _^_, _≤_, _<_}
+use native.Mathlib.Omega.{arith}
+use lib.ListN.{length, take}
+use lib.Seq.{take-append-add}
 use borrow.Author.Tests.{eq-eqb}
 use Rattle.sets.specs.Sets.{has}
 use Rattle.sets.proofs.Bounds.{member-below, below-pow}
@@ -16,6 +18,7 @@ use Rattle.protocol.specs.Soundness.{Sound}
 use Rattle.protocol.specs.Stores.{Store, write}
 use Rattle.protocol.specs.Lists.{preparations, blockStores, writeList}
 use Rattle.protocol.specs.Reference.{isBlockStore, include}
+use Rattle.protocol.specs.Claims.{SourceFirst, sourceStore}
 use Rattle.protocol.proofs.Loops.{Each, nil, cons, each-append, each-take, begins}
 use Rattle.protocol.proofs.Lists.{each-live, each-mark}
 use Rattle.protocol.proofs.States.{source-has}
@@ -65,10 +68,23 @@ pub source-store : (d k : ℕ) (bytes : List ℕ) (later : List Store) → inclu
 unfolding include
 source-store d k bytes later = rw (eq-eqb d d refl, eq-eqb k k refl)
 
--- a write that is made whole counts
-pub write-counts : (s : State) (k : ℕ) (bytes : List ℕ) → Sound s → 0 < live s
-    → include (source (live s)) k (writeList s k bytes) ≡ true
+pub source-first : SourceFirst
 unfolding writeList
-write-counts s k bytes fit some =
+source-first s k bytes fit some =
     let (later, e) = block-stores-begin _ (live s) k bytes some (below-pow _ _ .0 (live-known s fit)) in
-    rw (e, include-append, source-store, prepared)
+    (later, rw e)
+
+-- a write that is made whole counts, and so does one that is cut behind that store
+module _ (s : State) (k : ℕ) (bytes : List ℕ) (fit : Sound s) (some : 0 < live s) where
+  pub write-counts : include (source (live s)) k (writeList s k bytes) ≡ true
+  write-counts =
+      let (later, e) = source-first s k bytes fit some in
+      rw e (simp (include-append, source-store, prepared))
+
+  pub cut-counts : (p : ℕ) → sourceStore s k ≤ p → include (source (live s)) k (take p (writeList s k bytes)) ≡ true
+  cut-counts p l =
+      let (later, e) = source-first s k bytes fit some in
+      let split = take-append-add (preparations s k) (write (source (live s)) k bytes ∷ later)
+      (suc (p - sourceStore s k)) in
+      let whole : length (preparations s k) + suc (p - sourceStore s k) ≡ p = omega arith in
+      rw (e, rw whole at split) (simp (include-append, source-store, prepared))

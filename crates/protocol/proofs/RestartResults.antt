@@ -6,7 +6,7 @@ use mathlib.Core.Bool.{false}
 use mathlib.Core.List.{List}
 use Prim.Native.Nat.{ℕ, _≤_}
 use native.Mathlib.Omega.{arith}
-use lib.Dec.{lit<}
+use lib.Dec.{eqb, lit<}
 use lib.ListN.{length}
 use borrow.Author.Tests.{eq-eqb, le-ltb}
 use Rattle.sets.specs.Sets.{all}
@@ -15,7 +15,7 @@ use Rattle.protocol.specs.declared.Power.the-variants.{Stopped, Running}
 use Rattle.protocol.specs.declared.State.{State}
 use Rattle.protocol.specs.States.{isRunning}
 use Rattle.protocol.specs.Lists.{restartList}
-use Rattle.protocol.specs.Naming.{Found, none, one, several, Names, isSeveral, foundBy}
+use Rattle.protocol.specs.Naming.{Found, none, one, several, Names, foundNumber, foundBy}
 use Rattle.protocol.specs.Outcomes.{Outcome, disksOf, refusedOr, carryOut}
 use Rattle.protocol.specs.Calls.{restartRefusals, restartOutcome}
 use Rattle.protocol.specs.History.{Cabinet}
@@ -38,10 +38,10 @@ module _ {n b : ℕ} {contents : Contents} {c : Cabinet} (h : Invariant n b cont
   names : Names (s .online) (s .labels) (foundBy s)
   names = found-names s (h .proper .fit)
 
-  not-several : isSeveral (foundBy s) ≡ false
+  not-several : eqb (foundNumber (foundBy s)) 14 ≡ false
   not-several = go (foundBy s) names
     where
-      go : (f : Found) → Names (s .online) (s .labels) f → isSeveral f ≡ false
+      go : (f : Found) → Names (s .online) (s .labels) f → eqb (foundNumber f) 14 ≡ false
       go none z = refl
       go (one x) z = refl
       go several z = absurd (never-several (restartable .recoverable) z)

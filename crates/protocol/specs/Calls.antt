@@ -15,7 +15,7 @@ use Rattle.protocol.specs.States.{filledUp, stateOf, withOnline, powered
 use Rattle.protocol.specs.States.{zeroState, currentOf, isRunning, live, source}
 use Rattle.protocol.specs.Soundness.{sound}
 use Rattle.protocol.specs.Lists.{writeList, joinList, cleanList, restartList}
-use Rattle.protocol.specs.Naming.{Found, isNone, isSeveral, theSet, foundBy}
+use Rattle.protocol.specs.Naming.{Found, foundNumber, theSet, foundBy}
 use Rattle.protocol.specs.Outcomes.{Outcome, outcome, refusedOr, runsWith, carryOut}
 
 -- ---- what refusals ask
@@ -130,8 +130,8 @@ refusalsFinding s area found =
     unsound s ∷
     areaUnfit s area ∷
     (7, isRunning (s .power)) ∷
-    (13, isNone found) ∷
-    (14, isSeveral found) ∷
+    (13, eqb (foundNumber found) 13) ∷
+    (14, eqb (foundNumber found) 14) ∷
     []
 
 unfoldable pub restartRefusals : State → List ℕ → List (ℕ × Bool)

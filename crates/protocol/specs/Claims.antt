@@ -1,15 +1,17 @@
 -- What else is proved of the calls, and of every list of them, beside demand 3.
 use mathlib.Core.Path.{_≡_}
 use mathlib.Core.Logic.{_≢_}
-use mathlib.Core.List.{List, []}
-use Prim.Native.Nat.{ℕ, _*_, _≤_}
+use mathlib.Core.List.{List, [], _∷_, _++_}
+use Prim.Native.Nat.{ℕ, _+_, _*_, _≤_, _<_}
 use lib.ListN.{length}
 use Rattle.sets.specs.Sets.{size}
+use Rattle.protocol.specs.declared.Answer.{Answer}
 use Rattle.protocol.specs.declared.Call.the-variants.{Read, Write}
 use Rattle.protocol.specs.declared.State.{State}
 use Rattle.protocol.specs.Geometry.{areaSize}
-use Rattle.protocol.specs.States.{live}
+use Rattle.protocol.specs.States.{live, source}
 use Rattle.protocol.specs.Soundness.{InRange, Sound, Proper}
+use Rattle.protocol.specs.Stores.{Store, write}
 use Rattle.protocol.specs.Lists.{preparations, writeList}
 use Rattle.protocol.specs.Calls.{formatOutcome, writeOutcome}
 use Rattle.protocol.specs.Saving.{saveOutcome, assembleAnswer}
@@ -46,19 +48,31 @@ pub record SoundnessKept : Type 0 where
 abbrev pub WriteBound : Type 0
 WriteBound = (s : State) (k : ℕ) (bytes : List ℕ) → Sound s → length (writeList s k bytes) ≤ 4 * size (live s)
 
+-- "that of block k on the lowest member of its L": the first store behind the preparations ..
+abbrev pub SourceFirst : Type 0
+SourceFirst = (s : State) (k : ℕ) (bytes : List ℕ) → Sound s → 0 < live s
+    → (later : List Store) × (writeList s k bytes ≡ preparations s k ++ (write (source (live s)) k bytes ∷ later))
+
+-- .. so this is its place in the list, counted from 1
+abbrev pub sourceStore : State → ℕ → ℕ
+sourceStore s k = length (preparations s k) + 1
+
 -- "So a write that gives 0 counts, and one cut before that store or otherwise refused does not": what a write leaves of
 -- any reference contents.
 module _ (c : Cabinet) (k budget : ℕ) (bytes output : List ℕ) where
-  abbrev pub refusalOf : ℕ
-  refusalOf = writeOutcome (c .state) (c .area) output k bytes budget .answer .refusal
+  abbrev pub writeAnswer : Answer
+  writeAnswer = writeOutcome (c .state) (c .area) output k bytes budget .answer
 
   abbrev pub contentsLeft : Contents → Contents
   contentsLeft contents = afterWrites (carriedBy (Write k budget) bytes c) contents
 
   pub record Counting (contents : Contents) : Type 0 where
-    pub acknowledged : refusalOf ≡ 0 → contentsLeft contents ≡ replaced k bytes contents
-    pub refused : refusalOf ≢ 0 → refusalOf ≢ 15 → contentsLeft contents ≡ contents
-    pub cut-early : budget ≤ length (preparations (c .state) k) → contentsLeft contents ≡ contents
+    pub acknowledged : writeAnswer .refusal ≡ 0 → contentsLeft contents ≡ replaced k bytes contents
+    pub refused : writeAnswer .refusal ≢ 0 → writeAnswer .refusal ≢ 15 → contentsLeft contents ≡ contents
+    pub cut-before : writeAnswer .refusal ≡ 15 → writeAnswer .stores < sourceStore (c .state) k
+        → contentsLeft contents ≡ contents
+    pub cut-behind : writeAnswer .refusal ≡ 15 → sourceStore (c .state) k ≤ writeAnswer .stores
+        → contentsLeft contents ≡ replaced k bytes contents
 
 abbrev pub WritesCount : Type 0
 WritesCount =

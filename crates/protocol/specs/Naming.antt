@@ -1,7 +1,7 @@
 -- Document 01, "Which set a restart names". "The definition speaks of all sets X and not of a search."
 use mathlib.Core.Path.{_≡_}
 use mathlib.Core.Logic.{_≢_, _⊎_}
-use mathlib.Core.Bool.{Bool, true, false, cond, _&&_, _||_}
+use mathlib.Core.Bool.{Bool, true, cond, _&&_, _||_}
 use mathlib.Core.List.{List, [], _∷_}
 use Prim.Native.Nat.{ℕ, _^_, _<_}
 use lib.Dec.{eqb, ltb}
@@ -10,6 +10,7 @@ use Rattle.label.specs.declared.Label.{Label}
 use Rattle.protocol.specs.declared.State.{State}
 use Rattle.protocol.specs.Loops.{ascending, every, some}
 use Rattle.protocol.specs.States.{labelAt}
+use Rattle.protocol.specs.Soundness.{Sound}
 
 pub data Stage : Type 0 where
   first second third : Stage
@@ -109,29 +110,25 @@ decide found (stage ∷ later) = orLater (found stage) (decide found later)
 unfoldable pub named : ℕ → ℕ → List Label → Found
 named n online labels = decide (λ stage. foundIn (candidates stage n online labels)) stages
 
--- The function gives the answer of the paper's sentences, and they have no other.
-pub record NamedAsDefined (n online : ℕ) (labels : List Label) : Type 0 where
-  pub answers : Names online labels (named n online labels)
-  pub only : (f : Found) → Names online labels f → f ≡ named n online labels
+-- what a restart at this moment finds
+unfoldable pub foundBy : State → Found
+foundBy s = named (s .disks) (s .online) (s .labels)
 
--- ---- reading what is named
+-- Of every sound state, what a restart finds is what the paper's sentences say, and they say nothing else.
+pub record NamedAsDefined : Type 0 where
+  pub answers : (s : State) → Sound s → Names (s .online) (s .labels) (foundBy s)
+  pub only : (s : State) → Sound s → (f : Found) → Names (s .online) (s .labels) f → f ≡ foundBy s
 
-abbrev pub isNone : Found → Bool
-isNone none = true
-isNone (one x) = false
-isNone several = false
+-- ---- "a definition gives this paper's number and values for each of its cases"
 
-abbrev pub isSeveral : Found → Bool
-isSeveral none = false
-isSeveral (one x) = false
-isSeveral several = true
+-- "one candidate is the set, more than one is refused with 14. No candidate in any stage is 13."
+abbrev pub foundNumber : Found → ℕ
+foundNumber none = 13
+foundNumber (one x) = 0
+foundNumber several = 14
 
--- the set, where one is named
+-- the set that is named; the empty one where none is
 abbrev pub theSet : Found → ℕ
 theSet none = 0
 theSet (one x) = x
 theSet several = 0
-
--- what a restart at this moment names
-unfoldable pub foundBy : State → Found
-foundBy s = named (s .disks) (s .online) (s .labels)

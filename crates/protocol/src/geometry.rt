@@ -2,7 +2,7 @@
 
 // The form of the labels that the cabinet has, saves and assembles: its numbers, its reader and its writer. The most
 // disks are what it allows, and sets::DISKS.
-pub use label::narrow as label_form;
+pub use label_forms::narrow as label_form;
 
 // "In the saved form each disk has a slot of 5 bytes": as many as the longest label of the form has.
 pub const SLOT_SIZE: usize = 5;

@@ -10,7 +10,7 @@ use Rattle.protocol.specs.declared.State.{State}
 use Rattle.protocol.specs.Naming.{theSet, foundBy}
 use Rattle.protocol.specs.Calls.{restartRefusals}
 use Rattle.protocol.proofs.NotRefused.{restart-passed}
-use Rattle.stores.specs.Sizes.{SoundCabinet}
+use Rattle.budget.specs.Sizes.{SoundCabinet}
 
 pub restart-fits : (s : State) (area : List ℕ) → firstOf (restartRefusals s area) ≡ 0
     → SoundCabinet s area × (0 < theSet (foundBy s)) × (below (theSet (foundBy s)) (s .disks) ≡ true)

@@ -18,10 +18,10 @@ use Rattle.protocol.specs.Stores.{Store, copy, clear}
 use Rattle.protocol.specs.Lists.{copies, clears, resync, resyncs}
 use Rattle.protocol.proofs.Loops.{for-length, same-iterations}
 use Rattle.protocol.proofs.Iterations.{even-length}
-use Rattle.stores.specs.Runs.{Progress, runAll}
-use Rattle.stores.proofs.Runs.{in-sequence}
-use Rattle.state.specs.DirtyBits.{dirtyRegions}
-use Rattle.state.proofs.DirtyBits.{dirty-on-any}
+use Rattle.budget.specs.Runs.{Progress, runAll}
+use Rattle.budget.proofs.Runs.{in-sequence}
+use Rattle.dirty.specs.DirtyBits.{dirtyRegions}
+use Rattle.dirty.proofs.DirtyBits.{dirty-on-any}
 use Rattle.recovery.specs.Copying.{regionBlocks, others}
 use Rattle.recovery.specs.RegionLists.{resyncsOf}
 use Rattle.recovery.proofs.RegionBlocks.{region-loop}
@@ -34,7 +34,7 @@ source-apart set =
     ∙ rw (has-singleton (source set) (source set), eq-eqb (source set) (source set) refl)
     (and-false (has set (source set)))
 
--- the regions that are "dirty on any disk of S", as a set
+-- the regions that are "dirty on any disk of S", as a map
 pub resyncs-by-regions : (n b set : ℕ) (labels : List Label) → n ≤ mostDisks → below set n ≡ true
     → resyncs n b labels set ≡ resyncsOf n b (dirtyRegions labels set) set
 unfolding resyncs resyncsOf

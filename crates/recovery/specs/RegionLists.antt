@@ -8,7 +8,7 @@ use Rattle.protocol.specs.Loops.{ascending}
 use Rattle.protocol.specs.Stores.{Store}
 use Rattle.protocol.specs.Lists.{resync}
 
--- "For each region, ascending, that is dirty", where the dirty ones are given as a set
+-- "For each region, ascending, that is dirty", where the dirty ones are given as a map
 abbrev pub resyncOf : ℕ → ℕ → ℕ → ℕ → ℕ → List Store
 resyncOf n b dirty set r = cond (has dirty r) (resync n b set r) []
 

@@ -11,8 +11,6 @@ ghost use Rattle.protocol.specs.Naming.{foundBy};
 ghost use Rattle.protocol.specs.Calls.{restartRefusals};
 ghost use Rattle.naming.specs.Meaning.{foundOf};
 use naming::Naming;
-use naming::is_nothing;
-use naming::is_several;
 use protocol::State;
 use refusals::PASSED;
 use refusals::Refusal;
@@ -33,14 +31,13 @@ pub(crate) fn restart_refusal(is_sound: bool, s: State, area: usize, found: Nami
     let power = s.power;
     let fits = area::fits(s.disks as usize, s.blocks as usize, area);
     let running = is_running(power);
-    let nothing = is_nothing(found);
-    let several = is_several(found);
+    let naming = naming::refusal(found);
     first_of([
         Refusal(UNSOUND, !is_sound),
         Refusal(BUFFER_LENGTH, !fits),
         Refusal(RUNNING, running),
-        Refusal(NO_SET, nothing),
-        Refusal(SEVERAL_SETS, several),
+        Refusal(NO_SET, naming == NO_SET),
+        Refusal(SEVERAL_SETS, naming == SEVERAL_SETS),
         PASSED,
         PASSED,
         PASSED,

@@ -10,22 +10,22 @@ ghost use Rattle.protocol.specs.Outcomes.{yields, runsWith, carryOut};
 ghost use Rattle.protocol.specs.Naming.{foundBy};
 ghost use Rattle.protocol.specs.Calls.{restartOutcome};
 ghost use Rattle.naming.specs.Meaning.{foundOf};
-ghost use Rattle.stores.specs.Sizes.{SoundCabinet};
+ghost use Rattle.budget.specs.Sizes.{SoundCabinet};
 use crate::checks::restart_refusal;
 use crate::resyncing::resync_all;
 use crate::resyncing::resyncs_length;
+use budget::ended;
+use budget::size_of;
+use budget::started;
+use changes::Change;
+use dirty::dirty_regions;
 use naming::Naming;
 use naming::the_set;
 use protocol::Answer;
 use protocol::State;
 use sets::Mask;
-use state::dirty_regions;
-use state::sound;
+use soundness::sound;
 use state::without_stores;
-use stores::Change;
-use stores::ended;
-use stores::size_of;
-use stores::started;
 
 // "At the end store C = S and T = 0 on every member, ascending. Then run with G = S."
 fn restart_stores(s: State, area: &mut [u8], set: Mask, budget: u16) -> Answer
@@ -38,7 +38,7 @@ fn restart_stores(s: State, area: &mut [u8], set: Mask, budget: u16) -> Answer
     let dirty = dirty_regions(labels, set);
     let stores = resyncs_length(dirty, size, set) + sets::size(set);
     let run = resync_all(started(s, budget), area, dirty, size, set);
-    let run = stores::store_labels(run, size.disks, set, Change::Commit(set));
+    let run = changes::store_labels(run, size.disks, set, Change::Commit(set));
     ended(s, run, stores, set, budget)
 }
 
@@ -49,7 +49,7 @@ fn found_by(is_sound: bool, s: State) -> Naming
 {
     if is_sound {
         let labels = s.labels;
-        naming::named(s.disks as usize, s.online, labels)
+        finder::named(s.disks as usize, s.online, labels)
     } else {
         Naming::Nothing
     }

@@ -1,22 +1,22 @@
-// The dirty regions of a restart: "For each region, ascending, that is dirty on any disk of S",
-// which are given as a set.
+// The dirty regions of a restart: "For each region, ascending, that is dirty on any disk of S", which are given as a
+// map.
 ghost use mathlib.Core.Path.{_≡_};
 ghost use mathlib.Core.Bool.{true};
 ghost use Prim.Native.Nat.{_+_, _*_, _≤_, _<_};
 ghost use lib.ListN.{length};
 ghost use Rattle.sets.specs.Sets.{below};
 ghost use Rattle.protocol.specs.Geometry.{mostDisks, mostBlocks, mostRegions, regionSize, regions};
-ghost use Rattle.stores.specs.Runs.{progress, runAll};
-ghost use Rattle.stores.specs.Sizes.{Fits};
+ghost use Rattle.budget.specs.Runs.{progress, runAll};
+ghost use Rattle.budget.specs.Sizes.{Fits};
 ghost use Rattle.recovery.specs.RegionLists.{resyncOf, resyncsOf};
 use crate::copying::others;
 use crate::copying::region_blocks;
+use budget::Run;
+use budget::Size;
+use changes::Change;
 use protocol::geometry::REGION_SIZE;
 use regions::RegionMap;
 use sets::Mask;
-use stores::Change;
-use stores::Run;
-use stores::Size;
 
 // How many stores region r takes.
 fn resync_length(dirty: RegionMap, size: Size, set: Mask, r: usize) -> usize
@@ -36,7 +36,7 @@ pub(crate) fn resyncs_length(dirty: RegionMap, size: Size, set: Mask) -> usize
     ensures { λ k. ⌜ (k ≡ length (resyncsOf (size .disks) (size .blocks) dirty set))
         × (k ≤ mostRegions * ((regionSize + 1) * mostDisks)) ⌝ }
 {
-    let regions = state::regions(size.blocks);
+    let regions = bays::region_count(size.blocks);
     let mut stores = 0;
     let mut r = 0;
     while r < regions {
@@ -61,7 +61,7 @@ fn resync(run: Run, area: &mut [u8], dirty: RegionMap, size: Size, set: Mask, r:
     }
     let first = r * REGION_SIZE;
     let count = region_blocks(size.blocks, r);
-    let run = stores::copy_blocks(
+    let run = block_stores::copy_blocks(
         run,
         area,
         size,
@@ -70,7 +70,7 @@ fn resync(run: Run, area: &mut [u8], dirty: RegionMap, size: Size, set: Mask, r:
         first,
         count,
     );
-    stores::store_labels(run, n, set, Change::Clear(r))
+    changes::store_labels(run, n, set, Change::Clear(r))
 }
 
 // "For each region, ascending"
@@ -80,7 +80,7 @@ pub(crate) fn resync_all(run: Run, area: &mut [u8], dirty: RegionMap, size: Size
         ≡ runAll (size .blocks) (resyncsOf (size .disks) (size .blocks) dirty set)
         (progress run (now (area .entry))) ⌝ }
 {
-    let regions = state::regions(size.blocks);
+    let regions = bays::region_count(size.blocks);
     let mut run = run;
     let mut r = 0;
     while r < regions {

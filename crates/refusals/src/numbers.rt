@@ -62,3 +62,6 @@ pub const NO_ROOM: u8 = 21;
 
 // A dirty bit names no region.
 pub const NO_SUCH_REGION: u8 = 22;
+
+// A line of the cabinet program that is no command.
+pub const BAD_LINE: u8 = 99;

@@ -1,17 +1,20 @@
--- What blocks of input print is the transcript of the whole: byte by byte, and line by line. Assumes nothing.
+-- What blocks of input print and leave is what the lines of the whole do: byte by byte, and line by line. Assumes
+-- nothing.
 use mathlib.Core.Path.{_≡_, refl, sym, _∙_}
 use mathlib.Core.Bool.{true, false, cond}
-use mathlib.Core.List.{List, [], _∷_, _++_, flatten, append-assoc, append-nil}
+use mathlib.Core.List.{List, [], _∷_, _++_, map, flatten, append-assoc, append-nil}
 use Prim.Native.Nat.{ℕ}
 use lib.Dec.{eqb, eqb·suc-zero}
 use lib.ListN.{length, take}
 use Rattle.sets.proofs.Tests.{Test, test, passes, fails}
-use Rattle.commands.specs.Commands.{onFirst, lineMost}
+use Rattle.protocol.specs.States.{zeroState}
+use Rattle.commands.specs.Commands.{onFirst, lineMost, commandOf}
 use Rattle.replies.specs.Replies.{replyLine}
-use Rattle.interpreter.specs.Execution.{Machine}
-use Rattle.shell.specs.Dialogue.{lineBuffer, lines, lineExecuted, answers, transcript}
+use Rattle.interpreter.specs.Execution.{Machine, machineOf}
+use Rattle.interpreter.specs.Histories.{machineAfter}
+use Rattle.shell.specs.Dialogue.{lineBuffer, lines, lineExecuted, answers}
 use Rattle.shell.specs.Dialogue.{Dialogue, afterByte, printedByte, afterInput, printedInput}
-use Rattle.shell.specs.Dialogue.{printedEnd, initial, printedBlocks, BlocksGiveTranscript}
+use Rattle.shell.specs.Dialogue.{printedEnd, afterEnd, initial, printedBlocks, afterBlocks}
 use Rattle.shell.proofs.Buffering.{same-command, with-byte-take}
 use Rattle.shell.proofs.Blocks.{after-append, printed-append}
 
@@ -58,6 +61,15 @@ midLine m line = record { machine = m; line = take lineBuffer line }
 abbrev printedWhole : List ℕ → Dialogue → List ℕ
 printedWhole input d = printedInput input d ++ printedEnd (afterInput input d)
 
+abbrev afterWhole : List ℕ → Dialogue → Dialogue
+afterWhole input d = afterEnd (afterInput input d)
+
+-- a whole input prints and leaves what these lines do
+abbrev IsLines : List ℕ → Dialogue → List (List ℕ) → Machine → Type 0
+IsLines input d whole m =
+    (printedWhole input d ≡ answers whole m)
+    × (afterWhole input d ≡ midLine (machineAfter (map commandOf whole) m) [])
+
 module _ (x : ℕ) (line : List ℕ) (m : Machine) where
   line-feed : eqb x 10 ≡ true
       → (printedByte x (midLine m line) ≡ replyLine (lineExecuted line m .reply))
@@ -70,41 +82,56 @@ module _ (x : ℕ) (line : List ℕ) (m : Machine) where
   unfolding printedByte afterByte
   other-byte e = (rw e, rw (e, with-byte-take line x))
 
-input-end : (line : List ℕ) (m : Machine) → printedEnd (midLine m line) ≡ answers (linesWith line []) m
-unfolding printedEnd answers linesWith
-input-end [] m = refl
+input-end : (line : List ℕ) (m : Machine) → IsLines [] (midLine m line) (linesWith line []) m
+unfolding printedInput afterInput printedEnd afterEnd answers linesWith machineAfter
+input-end [] m = (refl, refl)
 input-end (y ∷ line) m =
-    rw (eqb·suc-zero (length line), eqb·suc-zero (length (take lineMost line)), same-command (y ∷ line), append-nil)
+    let same = same-command (y ∷ line) in (
+      rw (eqb·suc-zero (length line), eqb·suc-zero (length (take lineMost line)), same, append-nil),
+      rw (eqb·suc-zero (length line), eqb·suc-zero (length (take lineMost line)), same),
+    )
 
-by-lines : (input line : List ℕ) (m : Machine) → printedWhole input (midLine m line) ≡ answers (linesWith line input) m
-unfolding printedInput afterInput answers linesWith
+by-lines : (input line : List ℕ) (m : Machine) → IsLines input (midLine m line) (linesWith line input) m
+unfolding printedInput afterInput answers linesWith machineAfter
 by-lines [] line m = input-end line m
 by-lines (x ∷ input) line m =
     go (test (eqb x 10)) (by-lines input [] (lineExecuted line m .machine)) (by-lines input (line ++ (x ∷ [])) m)
   where
     go : Test (eqb x 10)
-        → printedWhole input (midLine (lineExecuted line m .machine) [])
-        ≡ answers (linesWith [] input) (lineExecuted line m .machine)
-        → printedWhole input (midLine m (line ++ (x ∷ []))) ≡ answers (linesWith (line ++ (x ∷ [])) input) m
-        → printedWhole (x ∷ input) (midLine m line) ≡ answers (linesWith line (x ∷ input)) m
+        → IsLines input (midLine (lineExecuted line m .machine) []) (linesWith [] input) (lineExecuted line m .machine)
+        → IsLines input (midLine m (line ++ (x ∷ []))) (linesWith (line ++ (x ∷ [])) input) m
+        → IsLines (x ∷ input) (midLine m line) (linesWith line (x ∷ input)) m
     go (passes e) ended continued =
         let step = line-feed x line m e in
         let after = lineExecuted line m in
         let first = append-assoc (replyLine (after .reply)) (printedInput input (midLine (after .machine) [])) _ in
-        rw (step .0, step .1, e) (first ∙ rw (← ended))
+        (rw (step .0, step .1, e) (first ∙ rw (← ended .0)), rw (step .1, e) (ended .1))
     go (fails e) ended continued = let step = other-byte x line m e in rw (step .0, step .1, e) continued
 
 -- ---- blocks
 
-by-blocks : (blocks : List (List ℕ)) (d : Dialogue) → printedBlocks blocks d ≡ printedWhole (flatten blocks) d
-unfolding printedBlocks flatten printedInput afterInput
-by-blocks [] d = refl
+by-blocks : (blocks : List (List ℕ)) (d : Dialogue)
+    → (printedBlocks blocks d ≡ printedWhole (flatten blocks) d)
+    × (afterBlocks blocks d ≡ afterWhole (flatten blocks) d)
+unfolding printedBlocks afterBlocks flatten printedInput afterInput
+by-blocks [] d = (refl, refl)
 by-blocks (block ∷ later) d =
     let append = printed-append block (flatten later) d in
-    rw (append, after-append block (flatten later) d, by-blocks later (afterInput block d))
-    (sym (append-assoc (printedInput block d) _ _))
+    let after = after-append block (flatten later) d in
+    let (printed, left) = by-blocks later (afterInput block d) in
+    (rw (append, after, printed) (sym (append-assoc (printedInput block d) _ _)), rw (after, left))
 
-pub blocks-give-transcript : BlocksGiveTranscript
-unfolding transcript
-blocks-give-transcript memory blocks =
-    by-blocks blocks (initial memory) ∙ by-lines (flatten blocks) [] _ ∙ rw (lines-with (flatten blocks) [])
+module _ (memory : List ℕ) (blocks : List (List ℕ)) where
+  abbrev start : Machine
+  start = machineOf zeroState memory
+
+  pub blocks-print : printedBlocks blocks (initial memory) ≡ answers (lines (flatten blocks)) start
+  blocks-print =
+      by-blocks blocks (initial memory) .0 ∙ by-lines (flatten blocks) [] start .0
+      ∙ rw (lines-with (flatten blocks) [])
+
+  pub blocks-leave : afterBlocks blocks (initial memory)
+      ≡ midLine (machineAfter (map commandOf (lines (flatten blocks))) start) []
+  blocks-leave =
+      by-blocks blocks (initial memory) .1 ∙ by-lines (flatten blocks) [] start .1
+      ∙ rw (lines-with (flatten blocks) [])

@@ -1,8 +1,7 @@
 -- Document 01, "The cabinet program": lines in, lines out. First as the paper has it, over the lines of a whole
 -- input; then byte by byte, as input comes.
-use mathlib.Core.Path.{_≡_}
 use mathlib.Core.Bool.{cond}
-use mathlib.Core.List.{List, [], _∷_, _++_, flatten}
+use mathlib.Core.List.{List, [], _∷_, _++_}
 use Prim.Native.Nat.{ℕ, _+_}
 use lib.Dec.{eqb, ltb}
 use lib.ListN.{length, take}
@@ -88,10 +87,10 @@ unfoldable pub printedBlocks : List (List ℕ) → Dialogue → List ℕ
 printedBlocks [] d = printedEnd d
 printedBlocks (block ∷ later) d = printedInput block d ++ printedBlocks later (afterInput block d)
 
--- However the input is cut into blocks, what is printed is the transcript of the whole.
-abbrev pub BlocksGiveTranscript : Type 0
-BlocksGiveTranscript = (memory : List ℕ) (blocks : List (List ℕ))
-    → printedBlocks blocks (initial memory) ≡ transcript memory (flatten blocks)
+-- and what is left at its end
+unfoldable pub afterBlocks : List (List ℕ) → Dialogue → Dialogue
+afterBlocks [] d = afterEnd d
+afterBlocks (block ∷ later) d = afterBlocks later (afterInput block d)
 
 -- ---- the same in the code's buffers
 

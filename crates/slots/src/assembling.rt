@@ -6,7 +6,10 @@ ghost use Rattle.refusals.specs.Refusals.{firstOf};
 ghost use Rattle.protocol.specs.Geometry.{mostDisks};
 ghost use Rattle.protocol.specs.Saving.{slotSize, assembleRefusals, assembleAnswer};
 ghost use Rattle.slots.specs.Below.{refusalsBelow, labelsBelow};
-use crate::form::wrong_size;
+use crate::size::wrong_size;
+use bays::bay_refusal;
+use bays::wrong_block_count;
+use bays::wrong_disk_count;
 use label::Label;
 use protocol::Answer;
 use protocol::Power;
@@ -22,12 +25,9 @@ use refusals::numbers::NO_SUCH_DISK;
 use refusals::or_next;
 use sets::DISKS;
 use sets::Mask;
-use state::bay_refusal;
 use state::blank_labels;
 use state::state_of;
 use state::without_stores;
-use state::wrong_block_count;
-use state::wrong_disk_count;
 use state::zero;
 
 // What slots are read as: the first refusal of theirs, 0 if there is none, and the labels.

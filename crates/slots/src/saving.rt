@@ -11,7 +11,7 @@ ghost use Rattle.protocol.specs.States.{labelAt};
 ghost use Rattle.protocol.specs.Soundness.{Sound};
 ghost use Rattle.protocol.specs.Outcomes.{yields};
 ghost use Rattle.protocol.specs.Saving.{slotSize, slotBytes, saveRefusals, saveOutcome};
-use crate::form::wrong_size;
+use crate::size::wrong_size;
 use label::Label;
 use protocol::Answer;
 use protocol::State;
@@ -22,7 +22,7 @@ use refusals::Refusal;
 use refusals::first_of;
 use refusals::numbers::BUFFER_LENGTH;
 use refusals::numbers::UNSOUND;
-use state::sound;
+use soundness::sound;
 use state::without_stores;
 
 // The label, and "the rest of the slot zero".
@@ -55,10 +55,10 @@ fn save_refusal(s: State, size: usize) -> u8
     ensures { λ r. ⌜ ((held : List ℕ) → length held ≡ size → r ≡ firstOf (saveRefusals s held)) ⌝ }
 {
     let disks = s.disks as usize;
-    let fit = sound(s);
+    let is_sound = sound(s);
     let wrong = wrong_size(disks, size);
     first_of([
-        Refusal(UNSOUND, !fit),
+        Refusal(UNSOUND, !is_sound),
         Refusal(BUFFER_LENGTH, wrong),
         PASSED,
         PASSED,

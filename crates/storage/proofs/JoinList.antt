@@ -11,8 +11,8 @@ use Rattle.protocol.specs.States.{currentOf, live, source}
 use Rattle.protocol.specs.Stores.{copy}
 use Rattle.protocol.specs.Lists.{move, moveToLive, fill, joinList}
 use Rattle.protocol.proofs.Iterations.{listed-length}
-use Rattle.stores.specs.Runs.{Progress, runAll}
-use Rattle.stores.proofs.Runs.{in-sequence}
+use Rattle.budget.specs.Runs.{Progress, runAll}
+use Rattle.budget.proofs.Runs.{in-sequence}
 
 module _ (s : State) (d : ℕ) where
   pub join-ran : (p : Progress) {q r t : Progress}

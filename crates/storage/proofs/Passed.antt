@@ -12,9 +12,9 @@ use Rattle.protocol.proofs.States.{source-known}
 use Rattle.protocol.proofs.Soundness.{live-known}
 use Rattle.protocol.proofs.NotRefused.{block-passed, join-passed}
 use Rattle.area.specs.Parts.{InArea}
-use Rattle.stores.specs.Sizes.{SoundCabinet}
-use Rattle.stores.proofs.Copying.{in-area}
-use Rattle.stores.proofs.Carrying.{sound-fits}
+use Rattle.budget.specs.Sizes.{SoundCabinet}
+use Rattle.block_stores.proofs.Copying.{in-area}
+use Rattle.budget.proofs.Sizes.{sound-fits}
 
 -- read and write
 module _ (s : State) (area : List ℕ) (k : ℕ) (bytes : List ℕ) (e : firstOf (blockRefusals s area k bytes) ≡ 0) where

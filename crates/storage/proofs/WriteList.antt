@@ -15,10 +15,10 @@ use Rattle.protocol.specs.Stores.{write, mark}
 use Rattle.protocol.specs.Lists.{moveToLive, marks, blockStores, preparations, writeList}
 use Rattle.protocol.proofs.Loops.{for-length}
 use Rattle.protocol.proofs.Soundness.{live-known}
-use Rattle.stores.specs.Runs.{Progress, runAll}
-use Rattle.stores.proofs.Runs.{in-sequence}
-use Rattle.state.specs.DirtyBits.{dirtyDisks}
-use Rattle.state.proofs.DirtyBits.{where-lacks}
+use Rattle.budget.specs.Runs.{Progress, runAll}
+use Rattle.budget.proofs.Runs.{in-sequence}
+use Rattle.dirty.specs.DirtyBits.{dirtyDisks}
+use Rattle.dirty.proofs.DirtyBits.{where-lacks}
 
 module _ (s : State) (k : ℕ) (bytes : List ℕ) where
   -- the disks of L where the bit does not stand

@@ -5,7 +5,7 @@ ghost use mathlib.Core.List.{List};
 ghost use Prim.Native.Nat.{ℕ};
 ghost use lib.ListN.{length};
 ghost use Rattle.refusals.specs.Refusals.{firstOf};
-ghost use Rattle.protocol.specs.Calls.{blockRefusals, joinRefusals, cleanRefusals};
+ghost use Rattle.protocol.specs.Calls.{blockRefusals, joinRefusals};
 use protocol::State;
 use protocol::geometry::BLOCK_SIZE;
 use refusals::PASSED;
@@ -20,10 +20,10 @@ use refusals::numbers::NO_SUCH_DISK;
 use refusals::numbers::NONE_LIVE;
 use refusals::numbers::STOPPED;
 use refusals::numbers::UNSOUND;
+use soundness::sound;
 use state::current;
 use state::is_running;
 use state::live;
-use state::sound;
 
 // "Read: 3, the output is not 64 bytes. 6, stopped. 9, k is not below b. 12, L is empty." "Write: 3, the data is not 64
 // bytes. 6. 9. 12."
@@ -69,26 +69,6 @@ pub(crate) fn join_refusal(s: State, area: usize, d: usize) -> u8
         Refusal(DISK_OFFLINE, !online),
         Refusal(DISK_CURRENT, member),
         Refusal(NONE_LIVE, live == 0),
-        PASSED,
-    ])
-}
-
-// "Quiet: 6. 12."
-pub(crate) fn clean_refusal(s: State) -> u8
-    ensures { λ r. ⌜ r ≡ firstOf (cleanRefusals s) ⌝ }
-{
-    let power = s.power;
-    let is_sound = sound(s);
-    let running = is_running(power);
-    let live = live(s);
-    first_of([
-        Refusal(UNSOUND, !is_sound),
-        Refusal(STOPPED, !running),
-        Refusal(NONE_LIVE, live == 0),
-        PASSED,
-        PASSED,
-        PASSED,
-        PASSED,
         PASSED,
     ])
 }

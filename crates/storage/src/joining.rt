@@ -7,18 +7,18 @@ ghost use Rattle.protocol.specs.States.{live};
 ghost use Rattle.protocol.specs.Lists.{joinList};
 ghost use Rattle.protocol.specs.Outcomes.{yields, runsWith, carryOut};
 ghost use Rattle.protocol.specs.Calls.{joinOutcome};
-ghost use Rattle.stores.specs.Sizes.{SoundCabinet};
+ghost use Rattle.budget.specs.Sizes.{SoundCabinet};
 use crate::checks::join_refusal;
 use crate::moves::live_length;
 use crate::moves::move_length;
 use crate::moves::move_to;
 use crate::moves::move_to_live;
+use budget::ended;
+use budget::size_of;
+use budget::started;
 use protocol::Answer;
 use protocol::State;
 use state::without_stores;
-use stores::ended;
-use stores::size_of;
-use stores::started;
 
 // "if L differs from G, move to L. Copy all blocks, ascending, from the lowest
 // member of L to d. Then move to L with d."
@@ -37,7 +37,7 @@ fn join_stores(s: State, area: &mut [u8], d: usize, budget: u16) -> Answer
     let joined = sets::union(live, new);
     let stores = live_length(current, live) + size.blocks + move_length(joined);
     let run = move_to_live(started(s, budget), n, current, live);
-    let run = stores::copy_disk(run, area, size, state::source(live), d);
+    let run = block_stores::copy_disk(run, area, size, state::source(live), d);
     let run = move_to(run, n, joined);
     ended(s, run, stores, joined, budget)
 }

@@ -7,19 +7,19 @@ ghost use lib.ListN.{length};
 ghost use Rattle.sets.specs.Sets.{below};
 ghost use Rattle.protocol.specs.Geometry.{mostDisks};
 ghost use Rattle.protocol.specs.Lists.{move, moveToLive};
-ghost use Rattle.stores.specs.Runs.{progress, runAll};
+ghost use Rattle.budget.specs.Runs.{progress, runAll};
+use budget::Run;
+use changes::Change;
 use sets::DISKS;
 use sets::Mask;
-use stores::Change;
-use stores::Run;
 
 // "for each disk of S, ascending, store T = S; then for each disk of S, ascending, store C = S and T = 0"
 pub(crate) fn move_to(run: Run, n: usize, set: Mask) -> Run
     requires { do ⌜ n ≤ (← ⟦DISKS⟧) ⌝ }
     ensures { λ r. ⌜ ((b : ℕ) (area : List ℕ) → progress r area ≡ runAll b (move n set) (progress run area)) ⌝ }
 {
-    let run = stores::store_labels(run, n, set, Change::Propose(set));
-    stores::store_labels(run, n, set, Change::Commit(set))
+    let run = changes::store_labels(run, n, set, Change::Propose(set));
+    changes::store_labels(run, n, set, Change::Commit(set))
 }
 
 // "if L differs from G, move to L"

@@ -8,20 +8,20 @@ ghost use Rattle.protocol.specs.States.{live};
 ghost use Rattle.protocol.specs.Lists.{writeList};
 ghost use Rattle.protocol.specs.Outcomes.{yields, runsWith, carryOut};
 ghost use Rattle.protocol.specs.Calls.{writeOutcome};
-ghost use Rattle.stores.specs.Sizes.{SoundCabinet};
+ghost use Rattle.budget.specs.Sizes.{SoundCabinet};
 use crate::checks::block_refusal;
 use crate::moves::live_length;
 use crate::moves::move_to_live;
 use area::from_slice;
+use budget::ended;
+use budget::size_of;
+use budget::started;
+use changes::Change;
+use dirty::dirty_disks;
 use protocol::Answer;
 use protocol::State;
 use protocol::geometry::REGION_SIZE;
-use state::dirty_disks;
 use state::without_stores;
-use stores::Change;
-use stores::ended;
-use stores::size_of;
-use stores::started;
 
 // "if L differs from G, move to L. Then set the region's dirty bit on each disk of L, ascending, where it does not
 // stand. Then store the block on each disk of L, ascending."
@@ -41,8 +41,8 @@ fn write_stores(s: State, area: &mut [u8], k: usize, bytes: &[u8], budget: u16) 
     let unmarked = sets::difference(live, dirty_disks(labels, n, region));
     let stores = live_length(current, live) + sets::size(unmarked) + sets::size(live);
     let run = move_to_live(started(s, budget), n, current, live);
-    let run = stores::store_labels(run, n, unmarked, Change::Mark(region));
-    let run = stores::store_blocks(run, area, size, live, k, from_slice(bytes));
+    let run = changes::store_labels(run, n, unmarked, Change::Mark(region));
+    let run = block_stores::store_blocks(run, area, size, live, k, from_slice(bytes));
     ended(s, run, stores, live, budget)
 }
 

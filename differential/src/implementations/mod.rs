@@ -10,7 +10,7 @@ pub use plain::Plain;
 pub use proved::{from_product, to_product, Proved};
 
 use crate::case::Case;
-use reference::plain::State;
+use reference::plain::{Reading, State};
 
 /// What a call gave: everything that can differ.
 #[derive(Clone, Debug, PartialEq, Eq)]
@@ -23,8 +23,18 @@ pub struct Outcome {
     pub state: State,
     /// The disk area after the call, whether the call may change it or not.
     pub area: Vec<u8>,
-    /// The output, the data or the slots after the call, whether it may change them or not.
+    /// The output, the data, the slots or the label's bytes after the call, whether it may change them or not.
     pub buffer: Vec<u8>,
+    /// What a label reading yields, and the length that a label writing does. Of other calls it is zero.
+    pub reading: Reading,
+}
+
+/// What a label writing yields that gave this length.
+fn written(length: usize) -> Reading {
+    Reading {
+        length,
+        ..Reading::default()
+    }
 }
 
 /// An implementation of the calls.

@@ -1,11 +1,12 @@
 //! The reference, which decides what is right.
 
-use super::{Implementation, Outcome};
+use super::{written, Implementation, Outcome};
 use crate::case::{Call, Case};
 use reference::cabinet::{fresh, Answer, Cabinet};
 use reference::mistakes::Rules;
+use reference::plain::Reading;
 use reference::sets::DiskSet;
-use reference::{slots, state};
+use reference::{label, slots, state};
 
 /// The reference, by the paper's rules or by the paper's with a mistake.
 pub struct Reference(pub Rules);
@@ -20,6 +21,7 @@ impl Implementation for Reference {
         let (mut buffer, area) = (case.buffer, case.area);
         let (disks, blocks, number) = (narrow(case.disks), narrow(case.blocks), narrow(case.number));
         let mut cabinet = Cabinet { rules, state, area };
+        let mut reading = Reading::default();
         let answer = match case.call {
             Call::Fresh => kept(&mut cabinet.state, fresh(rules, disks, blocks, &mut cabinet.area)),
             Call::Read => cabinet.read(number, &mut buffer),
@@ -38,6 +40,11 @@ impl Implementation for Reference {
                     slots::assemble(rules, disks, blocks, reach, &buffer),
                 )
             }
+            Call::ReadLabel => yielded(&mut reading, label::read(&buffer).map(Reading::from)),
+            Call::WriteLabel => {
+                let length = label::write(number, disks, &case.label.into(), &mut buffer);
+                yielded(&mut reading, length.map(written))
+            }
         };
         Outcome {
             result: answer.result,
@@ -45,6 +52,7 @@ impl Implementation for Reference {
             state: cabinet.state.into(),
             area: cabinet.area,
             buffer,
+            reading,
         }
     }
 }
@@ -53,6 +61,17 @@ impl Implementation for Reference {
 fn kept(place: &mut state::State, (answer, state): (Answer, state::State)) -> Answer {
     *place = state;
     answer
+}
+
+/// The answer of a label call. "Refused, it yields zeros for all of these."
+fn yielded(place: &mut Reading, result: Result<Reading, u8>) -> Answer {
+    match result {
+        Ok(reading) => {
+            *place = reading;
+            Answer::DONE
+        }
+        Err(number) => Answer::refused(number),
+    }
 }
 
 /// The reference's numbers are those of the cabinet program, of 16 bits. A larger one is given as 65,535: no call takes

@@ -1,8 +1,8 @@
 //! The calls in plain Rust.
 
-use super::{Implementation, Outcome};
+use super::{written, Implementation, Outcome};
 use crate::case::{Call, Case};
-use reference::plain;
+use reference::plain::{self, Answer, Reading, State};
 
 /// The module `plain` of the reference.
 pub struct Plain;
@@ -14,6 +14,7 @@ impl Implementation for Plain {
 
     fn make(&self, mut case: Case) -> Outcome {
         let (state, area, buffer) = (case.state, &mut case.area, &mut case.buffer);
+        let mut reading = Reading::default();
         let answer = match case.call {
             Call::Fresh => plain::fresh(case.disks, case.blocks, area),
             Call::Read => plain::read(state, area, case.number, buffer),
@@ -26,6 +27,11 @@ impl Implementation for Plain {
             Call::Cut => plain::cut(state),
             Call::Save => plain::save(state, buffer),
             Call::Assemble => plain::assemble(case.disks, case.blocks, case.reach, buffer),
+            Call::ReadLabel => yielded(&mut reading, plain::read_label(buffer)),
+            Call::WriteLabel => {
+                let length = plain::write_label(buffer, case.number, case.disks, &case.label);
+                yielded(&mut reading, length.map(written))
+            }
         };
         Outcome {
             result: answer.result,
@@ -33,6 +39,18 @@ impl Implementation for Plain {
             state: answer.state,
             area: case.area,
             buffer: case.buffer,
+            reading,
         }
+    }
+}
+
+/// The answer of a label call, which is given no state.
+fn yielded(place: &mut Reading, result: Result<Reading, u8>) -> Answer {
+    let (reading, result) = result.map_or_else(|number| (Reading::default(), number), |reading| (reading, 0));
+    *place = reading;
+    Answer {
+        result,
+        stores: 0,
+        state: State::default(),
     }
 }

@@ -1,10 +1,10 @@
 //! The proved product, through its bindings.
 
 use super::guarded::Guarded;
-use super::{Implementation, Outcome};
+use super::{written, Implementation, Outcome};
 use crate::case::{Call, Case};
 use cabinet::Refusal;
-use reference::plain::{Label, State};
+use reference::plain::{Label, Reading, State};
 
 /// The proved product.
 pub struct Proved;
@@ -30,15 +30,57 @@ impl Implementation for Proved {
             Call::Cut => state.power_off(),
             Call::Save => state.save(buffer),
             Call::Assemble => cabinet::State::assemble(case.disks, case.blocks, case.reach, buffer),
+            Call::ReadLabel => return read_label(&case),
+            Call::WriteLabel => return write_label(&case),
         };
         Outcome {
-            result: answer.outcome().map_or_else(Refusal::number, |()| 0),
+            result: number(answer.outcome()),
             stores: answer.stores.into(),
             state: from_product(answer.state),
             area: guarded_area.into_bytes(),
             buffer: guarded_buffer.into_bytes(),
+            reading: Reading::default(),
         }
     }
+}
+
+/// A label reading.
+fn read_label(case: &Case) -> Outcome {
+    let mut bytes = Guarded::new(&case.buffer);
+    let read = cabinet::Label::read(bytes.buffer());
+    let narrow = |number: usize| u8::try_from(number).expect("a label's numbers have four bits");
+    let reading = Reading {
+        disk: narrow(read.number),
+        disks: narrow(read.disks),
+        label: label_from_product(read.label),
+        length: read.length,
+    };
+    label_outcome(case, read.outcome(), bytes, reading)
+}
+
+/// A label writing.
+fn write_label(case: &Case) -> Outcome {
+    let mut output = Guarded::new(&case.buffer);
+    let label = label_to_product(case.label);
+    let answer = label.write(output.buffer(), case.number, case.disks);
+    label_outcome(case, answer.outcome(), output, written(answer.length))
+}
+
+/// What a label call gave: it takes no state and no area.
+fn label_outcome(case: &Case, outcome: Result<(), Refusal>, buffer: Guarded, reading: Reading) -> Outcome {
+    Outcome {
+        result: number(outcome),
+        stores: 0,
+        state: case.state,
+        area: case.area.clone(),
+        buffer: buffer.into_bytes(),
+        reading,
+    }
+}
+
+/// The number of an outcome.
+fn number(outcome: Result<(), Refusal>) -> u8 {
+    outcome.map_or_else(Refusal::number, |()| 0)
 }
 
 /// The state in the product's form.
@@ -48,11 +90,7 @@ pub fn to_product(state: State) -> cabinet::State {
         blocks: state.blocks,
         online: state.reach,
         current: state.current,
-        labels: state.labels.map(|label| cabinet::Label {
-            committed: label.committed,
-            tentative: label.tentative,
-            dirty: label.dirty,
-        }),
+        labels: state.labels.map(label_to_product),
     }
 }
 
@@ -63,10 +101,24 @@ pub fn from_product(state: cabinet::State) -> State {
         blocks: state.blocks,
         reach: state.online,
         current: state.current,
-        labels: state.labels.map(|label| Label {
-            committed: label.committed,
-            tentative: label.tentative,
-            dirty: label.dirty,
-        }),
+        labels: state.labels.map(label_from_product),
+    }
+}
+
+/// The label in the product's form.
+fn label_to_product(label: Label) -> cabinet::Label {
+    cabinet::Label {
+        committed: label.committed,
+        tentative: label.tentative,
+        dirty: label.dirty,
+    }
+}
+
+/// The label from the product's form.
+fn label_from_product(label: cabinet::Label) -> Label {
+    Label {
+        committed: label.committed,
+        tentative: label.tentative,
+        dirty: label.dirty,
     }
 }

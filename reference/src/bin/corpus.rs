@@ -1,4 +1,4 @@
-//! Rewrites the four files of the corpus and the case table in place.
+//! Rewrites the two files of the corpus in place.
 
 #![forbid(unsafe_code)]
 

@@ -1,6 +1,7 @@
-//! From the reference's states and back. A running state with no current disk, which is unsound, has no form here, and
-//! becomes a stopped one.
+//! From the reference's states and labels, and back. A running state with no current disk, which is unsound, has no
+//! form here, and becomes a stopped one.
 
+use super::label::Reading;
 use super::state::{Label, State};
 use crate::sets::DiskSet;
 use crate::{label, state};
@@ -21,6 +22,17 @@ impl From<Label> for label::Label {
             committed: DiskSet(label.committed),
             tentative: DiskSet(label.tentative),
             dirty: label.dirty,
+        }
+    }
+}
+
+impl From<label::Reading> for Reading {
+    fn from(reading: label::Reading) -> Reading {
+        Reading {
+            disk: reading.disk,
+            disks: reading.disks,
+            label: reading.label.into(),
+            length: reading.length,
         }
     }
 }

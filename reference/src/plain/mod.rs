@@ -8,6 +8,7 @@
 mod answer;
 mod convert;
 mod fresh;
+mod label;
 mod naming;
 mod reach;
 mod restart;
@@ -19,6 +20,7 @@ mod stores;
 
 pub use answer::Answer;
 pub use fresh::fresh;
+pub use label::{read_label, write_label, Reading};
 pub use reach::{cut, give_back, lose};
 pub use restart::restart;
 pub use running::{join, quiet, read, write};

@@ -11,16 +11,15 @@ use Rattle.recovery.proofs.checks.restart_refusal.Tie as tie
 returns : tie.Need-returns
 unfolding firstOf
 returns c held h same =
-    let start = c .before .before .before .before .before .before .before in
+    let start = c .before .before .before .before .before .before in
     let a = start .args in
     let listed : c .first-of .result ≡ firstOf (refusalsFinding (a .s) held (foundOf (a .found))) =
     rw (
       h,
       c .first-of .ensures,
-      c .before .is-several .ensures,
-      c .before .before .is-nothing .ensures,
-      c .before .before .before .is-running .ensures,
-      c .before .before .before .before .fits2 .ensures,
+      c .before .refusal .ensures,
+      c .before .before .is-running .ensures,
+      c .before .before .before .fits2 .ensures,
       start .pre,
     ) in
     listed ∙ sound-first (a .s) held (foundOf (a .found)) same
@@ -28,4 +27,4 @@ returns c held h same =
 pub restart-refusal-spec : {M : Type 1} → statement M
 restart-refusal-spec =
     tie.close (tie.spec (search needs) (search needs) (search needs) (search needs) (search needs)
-    (search needs) (search needs) returns)
+    (search needs) returns)

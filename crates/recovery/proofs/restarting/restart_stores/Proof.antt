@@ -3,10 +3,11 @@ use native.Mathlib.Omega.{arith}
 use lib.ListN.{length-append}
 use borrow.Author.Needs.{needs}
 use Rattle.protocol.specs.Lists.{commits, restartList}
-use Rattle.stores.proofs.Runs.{in-sequence}
-use Rattle.state.specs.DirtyBits.{dirtyRegions}
-use Rattle.stores.proofs.Lengths.{commits-size}
-use Rattle.stores.proofs.Carrying.{sound-fits, carried}
+use Rattle.budget.proofs.Runs.{in-sequence}
+use Rattle.dirty.specs.DirtyBits.{dirtyRegions}
+use Rattle.budget.proofs.Lengths.{commits-size}
+use Rattle.budget.proofs.Carrying.{carried}
+use Rattle.budget.proofs.Sizes.{sound-fits}
 use Rattle.recovery.specs.RegionLists.{resyncsOf}
 use Rattle.recovery.proofs.RestartList.{resyncs-by-regions}
 use Rattle.recovery.proofs.restarting.restart_stores.Statement.{statement}

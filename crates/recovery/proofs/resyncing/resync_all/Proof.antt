@@ -6,9 +6,9 @@ use lib.ListN.{length}
 use borrow.Author.Needs.{needs}
 use Rattle.protocol.specs.Geometry.{regions}
 use Rattle.protocol.specs.Loops.{ascending}
-use Rattle.stores.specs.Runs.{progress, runAll}
-use Rattle.stores.proofs.Runs.{run-next}
-use Rattle.stores.proofs.Copying.{still-fits}
+use Rattle.budget.specs.Runs.{progress, runAll}
+use Rattle.budget.proofs.Runs.{run-next}
+use Rattle.budget.proofs.Sizes.{still-fits}
 use Rattle.recovery.specs.RegionLists.{resyncOf, resyncsOf}
 use Rattle.recovery.proofs.resyncing.resync_all.Statement.{statement}
 use Rattle.recovery.proofs.resyncing.resync_all.Tie as tie

@@ -6,7 +6,7 @@ use lib.ListN.{length}
 use borrow.Author.Needs.{needs}
 use Rattle.protocol.specs.Geometry.{mostDisks, regionSize, regions}
 use Rattle.protocol.specs.Loops.{ascending}
-use Rattle.stores.proofs.Lengths.{length-next}
+use Rattle.budget.proofs.Lengths.{length-next}
 use Rattle.recovery.specs.RegionLists.{resyncOf, resyncsOf}
 use Rattle.recovery.proofs.resyncing.resyncs_length.Statement.{statement}
 use Rattle.recovery.proofs.resyncing.resyncs_length.Tie as tie

@@ -4,7 +4,8 @@ use borrow.Author.Needs.{needs}
 use Rattle.sets.proofs.Bounds.{below-with}
 use Rattle.protocol.proofs.States.{source-known}
 use Rattle.protocol.proofs.Soundness.{live-known}
-use Rattle.stores.proofs.Carrying.{sound-fits, carried}
+use Rattle.budget.proofs.Carrying.{carried}
+use Rattle.budget.proofs.Sizes.{sound-fits}
 use Rattle.storage.proofs.JoinList.{join-ran, join-length}
 use Rattle.storage.proofs.joining.join_stores.Statement.{statement}
 use Rattle.storage.proofs.joining.join_stores.Tie as tie

@@ -3,7 +3,7 @@ use mathlib.Core.Path.{ap, sym, _∙_}
 use Prim.Native.Nat.{_*_}
 use native.Mathlib.Omega.{arith}
 use borrow.Author.Needs.{needs}
-use Rattle.stores.proofs.Lengths.{move-size}
+use Rattle.budget.proofs.Lengths.{move-size}
 use Rattle.storage.proofs.moves.move_length.Statement.{statement}
 use Rattle.storage.proofs.moves.move_length.Tie as tie
 

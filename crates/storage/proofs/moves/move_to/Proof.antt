@@ -1,7 +1,7 @@
 -- `storage::moves::move_to` meets its contract. Assumes nothing.
 use borrow.Author.Needs.{needs}
 use Rattle.protocol.specs.Lists.{proposals, commits, move}
-use Rattle.stores.proofs.Runs.{in-sequence}
+use Rattle.budget.proofs.Runs.{in-sequence}
 use Rattle.storage.proofs.moves.move_to.Statement.{statement}
 use Rattle.storage.proofs.moves.move_to.Tie as tie
 

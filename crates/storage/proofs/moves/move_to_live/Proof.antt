@@ -2,7 +2,7 @@
 use borrow.Author.Tests.{eq-eqb, ne-eqb}
 use borrow.Author.Needs.{needs}
 use Rattle.protocol.specs.Lists.{moveToLive}
-use Rattle.stores.specs.Runs.{runAll}
+use Rattle.budget.specs.Runs.{runAll}
 use Rattle.storage.proofs.moves.move_to_live.Statement.{statement}
 use Rattle.storage.proofs.moves.move_to_live.Tie as tie
 

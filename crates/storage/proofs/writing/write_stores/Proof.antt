@@ -3,7 +3,8 @@ use native.Mathlib.Omega.{arith}
 use borrow.Author.Needs.{needs}
 use Rattle.protocol.specs.Geometry.{regionOf}
 use Rattle.protocol.proofs.Soundness.{live-known}
-use Rattle.stores.proofs.Carrying.{sound-fits, carried}
+use Rattle.budget.proofs.Carrying.{carried}
+use Rattle.budget.proofs.Sizes.{sound-fits}
 use Rattle.storage.proofs.WriteList.{write-ran, write-length}
 use Rattle.storage.proofs.writing.write_stores.Statement.{statement}
 use Rattle.storage.proofs.writing.write_stores.Tie as tie

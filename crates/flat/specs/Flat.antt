@@ -1,0 +1,62 @@
+-- A state and what a call yields, as programs in C and Rust hold them.
+use mathlib.Core.Path.{_≡_}
+use mathlib.Core.Bool.{cond}
+use mathlib.Core.List.{List}
+use Prim.Native.Nat.{ℕ}
+use lib.Dec.{eqb}
+use Rattle.protocol.specs.declared.Power.{Power}
+use Rattle.protocol.specs.declared.Power.the-variants.{Stopped, Running}
+use Rattle.protocol.specs.declared.State.{State}
+use Rattle.protocol.specs.declared.Answer.{Answer}
+use Rattle.protocol.specs.States.{currentOf}
+use Rattle.protocol.specs.Soundness.{Sound}
+use Rattle.protocol.specs.Outcomes.{Outcome}
+use Rattle.flat.specs.declared.FlatState.{FlatState}
+use Rattle.flat.specs.declared.FlatAnswer.{FlatAnswer}
+
+-- "either running with a current set G, or stopped with none": none is written 0, as the cabinet program prints it
+unfoldable pub powerOf : ℕ → Power
+powerOf g = cond (eqb g 0) Stopped (Running g)
+
+-- the state that a flat one stands for
+unfoldable pub opened : FlatState → State
+opened f = record {
+  disks = f .disks;
+  blocks = f .blocks;
+  labels = f .labels;
+  online = f .online;
+  power = powerOf (f .current);
+}
+
+unfoldable pub flatState : State → FlatState
+flatState s = record {
+  labels = s .labels;
+  disks = s .disks;
+  blocks = s .blocks;
+  online = s .online;
+  current = currentOf (s .power);
+}
+
+unfoldable pub flatAnswer : Answer → FlatAnswer
+flatAnswer a = record { state = flatState (a .state); stores = a .stores; refusal = a .refusal }
+
+-- what a program outside sees of a call
+pub record FlatOutcome : Type 0 where
+  pub answer : FlatAnswer
+  pub area : List ℕ
+  pub output : List ℕ
+
+unfoldable pub flatOutcome : Outcome → FlatOutcome
+flatOutcome o = record { answer = flatAnswer (o .answer); area = o .area; output = o .output }
+
+-- ---- one way of writing each
+
+-- Every flat state stands for one state, and is that state's writing: what a call leaves as it was, it gives back as
+-- it was.
+abbrev pub OpenedIsWritten : Type 0
+OpenedIsWritten = (f : FlatState) → flatState (opened f) ≡ f
+
+-- Every sound state is written as one that stands for it. (A running one with no current disk has no writing, and is
+-- not sound.)
+abbrev pub SoundIsWritten : Type 0
+SoundIsWritten = (s : State) → Sound s → opened (flatState s) ≡ s

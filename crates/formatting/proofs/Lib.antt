@@ -1,0 +1,3 @@
+-- The laws of the labels and the area that fresh gives.
+pub mod Fresh
+pub mod Cleared

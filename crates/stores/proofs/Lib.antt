@@ -1,6 +1,0 @@
--- The laws of stores under a budget, how long their lists are, and the answer that they give.
-pub mod Runs
-pub mod Changed
-pub mod Copying
-pub mod Lengths
-pub mod Carrying

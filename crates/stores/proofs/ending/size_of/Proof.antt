@@ -1,8 +1,0 @@
--- `stores::ending::size_of` meets its contract. Assumes nothing.
-use mathlib.Core.Path.{refl}
-use borrow.Author.Needs.{needs}
-use Rattle.stores.proofs.ending.size_of.Statement.{statement}
-use Rattle.stores.proofs.ending.size_of.Tie as tie
-
-pub size-of-spec : {M : Type 1} → statement M
-size-of-spec = tie.close (tie.spec (search needs) (search needs) (λ c. refl))

@@ -1,4 +1,0 @@
-pub mod Runs
-pub mod Changes
-pub mod Sizes
-pub mod Answers
