@@ -1,9 +1,9 @@
 // The numbers of disks, blocks and regions.
 ghost use mathlib.Core.Path.{_≡_};
 ghost use Rattle.protocol.specs.Geometry.{wrongDiskCount, wrongBlockCount, regions};
+use label_forms::label_form;
 use protocol::geometry::MOST_BLOCKS;
 use protocol::geometry::REGION_SIZE;
-use protocol::geometry::label_form;
 
 // "4, n outside 1 to 8": as the form of the cabinet's labels has it.
 pub fn wrong_disk_count(disks: usize) -> bool

@@ -16,7 +16,7 @@ use flat::opened;
 use label::Label;
 use label::Reading;
 use label::Written;
-use protocol::geometry::label_form;
+use label_forms::label_form;
 use sets::Mask;
 
 #[no_mangle]

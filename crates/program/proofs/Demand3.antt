@@ -47,18 +47,18 @@ answers-append (line ∷ first) later m =
 
 -- ---- a restart behind a good `f`
 
-module _ (budget : ℕ) (since : List Step) where
-  abbrev x : Step
-  x = stepOf (Restart budget) 0
+abbrev restartStep : ℕ → Step
+restartStep budget = stepOf (Restart budget) 0
 
+module _ (budget : ℕ) (since : List Step) where
   abbrev withIt : List Step
-  withIt = since ++ (x ∷ [])
+  withIt = since ++ (restartStep budget ∷ [])
 
   abbrev here : CallIn withIt
-  here = record { before = since; this = x; after = []; here = refl }
+  here = record { before = since; this = restartStep budget; after = []; here = refl }
 
   abbrev yielded : ℕ → ℕ → Outcome
-  yielded n b = outcomeOf x (cabinetAfter n b (zeroArea n b) since)
+  yielded n b = outcomeOf (restartStep budget) (cabinetAfter n b (zeroArea n b) since)
 
 module _ (budget n b : ℕ) (since : List Step) (g : good n b ≡ true) where
   done : formatOutcome (zeroArea n b) [] n b .answer .refusal ≡ 0
@@ -71,7 +71,7 @@ module _ (budget n b : ℕ) (since : List Step) (g : good n b ≡ true) where
   gave = yielded budget since n b
 
   one-more : cabinetAfter n b (zeroArea n b) list ≡ cabinetOf gave
-  one-more = ran-last since (x budget since) _
+  one-more = ran-last since (restartStep budget) _
 
   demand : Demand3 n b (zeroArea n b) list
   demand = demand-3 n b (zeroArea n b) done _

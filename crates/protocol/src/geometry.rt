@@ -1,9 +1,5 @@
 // The limits of a cabinet in code; specs/Geometry.antt has them for the definitions.
 
-// The form of the labels that the cabinet has, saves and assembles: its numbers, its reader and its writer. The most
-// disks are what it allows, and sets::DISKS.
-pub use label_forms::narrow as label_form;
-
 // "In the saved form each disk has a slot of 5 bytes": as many as the longest label of the form has.
 pub const SLOT_SIZE: usize = 5;
 
