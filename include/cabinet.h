@@ -122,7 +122,7 @@ struct cabinet_answer cabinet_write(struct cabinet_state state, uint8_t *area, s
                                     const uint8_t *data, size_t data_length, uint16_t budget);
 
 /* Makes the disk current: moves as a write does, copies all blocks to the disk, then moves to the set with the disk.
-   Refuses: 1, 2, 6, 8, 10, 11, 12, 15. */
+   Refuses: 1, 2, 6, 8, 11, 10, 12, 15: a current disk gives 11, online or not. */
 struct cabinet_answer cabinet_join(struct cabinet_state state, uint8_t *area, size_t area_length, size_t disk,
                                    uint16_t budget);
 

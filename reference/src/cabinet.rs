@@ -156,20 +156,21 @@ impl Cabinet {
         }))
     }
 
-    /// Join: 1, 2, 6, 8, 10, 11, 12, 15.
+    /// Join: 1, 2, 6, 8, 11, 10, 12, 15. "Membership is tested before reach in a join" (request 2.1).
     pub fn join(&mut self, disk: u16, supply: u16) -> Answer {
         let beyond = disk >= self.state.disks.into();
         let is_in = |set: DiskSet| !beyond && set.has(disk as u8);
-        let ready = refusal::first(&[
+        let mut refusals = [
             (UNSOUND, self.is_unsound()),
             (WRONG_LENGTH, self.area_misfits()),
             (STOPPED, self.state.is_stopped()),
             (NO_SUCH_DISK, beyond),
-            (OUT_OF_REACH, !is_in(self.state.reach)),
             (ALREADY_MEMBER, is_in(self.state.current())),
+            (OUT_OF_REACH, !is_in(self.state.reach)),
             (NONE_LIVE, self.state.live().is_empty()),
-        ]);
-        Answer::of(ready.map(|()| {
+        ];
+        misorder_join(self.rules, &mut refusals);
+        Answer::of(refusal::first(&refusals).map(|()| {
             let list = lists::join(self.rules, &self.state, disk as u8);
             self.carry_out(&list, supply, self.state.live().with(disk as u8))
         }))
@@ -271,5 +272,16 @@ impl Cabinet {
     /// The condition of refusal 2.
     fn area_misfits(&self) -> bool {
         self.area.len() != self.state.area_length()
+    }
+}
+
+/// Two mistakes test the last three conditions of a join in another order. The paper's rules leave it as it stands.
+fn misorder_join(rules: Rules, refusals: &mut [(u8, bool); 7]) {
+    let [.., member, reach, live] = *refusals;
+    if rules.makes(Mistake::JoinNoneLiveBeforeMember) {
+        refusals[4..].copy_from_slice(&[live, member, reach]);
+    }
+    if rules.makes(Mistake::JoinReachBeforeMember) {
+        refusals[4..].copy_from_slice(&[reach, member, live]);
     }
 }

@@ -36,6 +36,8 @@ pub enum Claim {
     WriteBound,
     /// Refusals change nothing.
     RefusedUnchanged,
+    /// Members that are asked to join are told so.
+    MembersTold,
     /// Saving and assembling.
     SavedAssembles,
     /// The stages name what the definition says.
@@ -75,7 +77,7 @@ impl Claim {
     ];
 
     /// The claims about each call that is made.
-    pub const OF_CALLS: [Claim; 9] = [
+    pub const OF_CALLS: [Claim; 10] = [
         Claim::RestartedBlocks,
         Claim::NotSeveral,
         Claim::RestartFinds,
@@ -85,6 +87,7 @@ impl Claim {
         Claim::CutCounts,
         Claim::WriteBound,
         Claim::RefusedUnchanged,
+        Claim::MembersTold,
     ];
 
     /// All claims.
@@ -111,6 +114,7 @@ impl Claim {
                 return format!("a write makes at most {bound} times as many stores as L has disks");
             }
             Claim::RefusedUnchanged => "a refusal other than 15 counts no stores, keeps the state",
+            Claim::MembersTold => "a join of a current disk gives 11, in reach or not",
             Claim::SavedAssembles => "a saved state, assembled with its R, is the state after a cut",
             Claim::NamedAsDefined => "the stages name the set that the definition says",
             Claim::FinderAgrees => "the finder, with one set a disk, gives the definition's answer",
@@ -154,6 +158,7 @@ impl Claim {
                 let is_carried = [DONE, SUPPLY_ENDED].contains(&result);
                 is_carried || event.answer.stores == 0 && event.after.state == *event.before
             }
+            (Claim::MembersTold, Call::Join { disk, .. }) => result == ALREADY_MEMBER || !was_current(event, *disk),
             _ => true,
         }
     }
@@ -173,6 +178,11 @@ fn source_store(event: &Event, block: u16) -> usize {
     let list = lists::write(event.after.rules, event.before, block as u8, &[]);
     let before = list.iter().take_while(|store| !matches!(store, Store::Block { .. }));
     before.count() + usize::from(!event.after.rules.makes(Mistake::CutWriteCountsEarly))
+}
+
+/// Whether the disk was in G before the call. A stopped cabinet has no G.
+fn was_current(event: &Event, disk: u16) -> bool {
+    event.before.current().members().any(|member| u16::from(member) == disk)
 }
 
 /// "For each disk d of that G and each k below b, block k of d in the disk area equals block k of the book."

@@ -17,6 +17,7 @@ pub fn input() -> Vec<u8> {
         corpus.cuts_with(n);
     }
     corpus.refusals();
+    corpus.refused_joins();
     corpus.lost_and_returned();
     corpus.fresh_in_and_out_of_range();
     corpus.bad_lines();
@@ -51,7 +52,7 @@ impl Corpus {
         self.bytes.push(b'\n');
     }
 
-    fn lines(&mut self, lines: &[&str]) {
+    fn lines(&mut self, lines: &[impl AsRef<[u8]>]) {
         for line in lines {
             self.line(line);
         }
@@ -160,10 +161,42 @@ impl Corpus {
             }
             self.lines(&["s 0", "s 99", "r 0", "s 0", "s 9999", "s 9999", "g 8"]);
         }
+    }
+
+    /// Refusals of a join: "membership is tested before reach", and both before L.
+    fn refused_joins(&mut self) {
         self.heading("joins of a member out of reach, and of no member with none live");
         self.lines(&["f 3 2", "x 2", "w 0 9 99", "j 2 99", "r 2", "j 2 3", "s 99", "j 2 99"]);
         self.lines(&["x 0", "j 0 99", "r 0", "j 0 99", "x 0", "w 1 8 99", "r 0", "x 1", "x 2"]);
         self.lines(&["j 0 0", "j 0 99", "g 0", "r 2", "j 0 99", "g 0", "g 1", "j 0 99"]);
+        self.heading("the example of docs/CHANGES.md for request 2.1");
+        self.lines(&["f 3 8", "x 2", "j 2 99", "r 2", "j 2 99", "x 2", "w 0 7 99", "j 2 99"]);
+        self.lines(&["x 0", "x 1", "j 0 99"]);
+        for n in [2, 3, 8] {
+            self.joins_of_a_pulled_disk(n, n / 2);
+        }
+    }
+
+    /// Joins of a disk that is pulled: while it is current, and when a write has left it behind, with others live and
+    /// with none. Then joins when it is back, with none live and with one.
+    fn joins_of_a_pulled_disk(&mut self, n: u16, pulled: u16) {
+        let joins = [format!("j {pulled} 0"), format!("j {pulled} 99")];
+        self.heading(&format!("joins of a pulled disk, n = {n}"));
+        self.lines(&[format!("f {n} 2"), format!("x {pulled}")]);
+        self.lines(&joins);
+        self.line("w 0 5 99");
+        self.lines(&joins);
+        for disk in (0..n).filter(|&disk| disk != pulled) {
+            self.lines(&[format!("x {disk}"), format!("j {disk} 99")]);
+        }
+        self.lines(&joins);
+        self.line(format!("r {pulled}"));
+        self.lines(&joins);
+        self.lines(&[
+            format!("r {}", (pulled + 1) % n),
+            format!("j {pulled} 99"),
+            format!("j {pulled} 0"),
+        ]);
     }
 
     /// Disks that come and go between calls.

@@ -1,6 +1,6 @@
-//! An independent implementation of document 01, *The cohort-set disk cabinet*.
+//! An independent implementation of document 01, *The cohort-set disk cabinet*, and of document 02's request 2.1.
 //!
-//! It is written from the paper alone and shares no code, table or layout with the proved product. It is meant to be
+//! It is written from the papers alone and shares no code, table or layout with the proved product. It is meant to be
 //! read beside the paper: each rule stands once, at a place named in the paper's terms, and the comments give the
 //! paper's sentence. The restart searches all sets, as the definition says, and does not try to be fast. The module
 //! [`plain`] has the calls a second time, for speed; a test holds it to the others.
@@ -30,6 +30,7 @@ pub mod session;
 pub mod sets;
 pub mod slots;
 pub mod small_states;
+pub mod sound_states;
 pub mod state;
 pub mod store;
 pub mod trial;

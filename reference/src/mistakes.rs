@@ -33,6 +33,10 @@ pub enum Mistake {
     FormatWithTentative,
     /// A join moves first and copies afterwards.
     JoinBeforeCopies,
+    /// A join tests first whether L is empty, then membership, then reach.
+    JoinNoneLiveBeforeMember,
+    /// A join tests reach before membership: the order before request 2.1.
+    JoinReachBeforeMember,
     /// One member suffices for a stage, and the largest of several sets is taken.
     LargerSet,
     /// Only a set that has most of the disks in reach is taken.
@@ -59,7 +63,7 @@ pub enum Mistake {
 
 impl Mistake {
     /// Every mistake with its name.
-    pub const ALL: [(Mistake, &'static str); 25] = [
+    pub const ALL: [(Mistake, &'static str); 27] = [
         (Mistake::AssembleOneSlot, "assemble_one_slot"),
         (Mistake::BlocksBeforeBits, "blocks_before_bits"),
         (Mistake::BookCountsAtLastDisk, "book_counts_at_last_disk"),
@@ -74,6 +78,8 @@ impl Mistake {
         (Mistake::FinderMissesCommitted, "finder_misses_committed"),
         (Mistake::FormatWithTentative, "format_with_tentative"),
         (Mistake::JoinBeforeCopies, "join_before_copies"),
+        (Mistake::JoinNoneLiveBeforeMember, "join_none_live_before_member"),
+        (Mistake::JoinReachBeforeMember, "join_reach_before_member"),
         (Mistake::LargerSet, "larger_set"),
         (Mistake::Majority, "majority"),
         (Mistake::ReadOfAnotherBlock, "read_of_another_block"),

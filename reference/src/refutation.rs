@@ -23,6 +23,7 @@ pub fn claim_against(mistake: Mistake) -> Claim {
             Claim::RestartFinds
         }
         Mistake::FinderMissesCommitted => Claim::FinderAgrees,
+        Mistake::JoinNoneLiveBeforeMember | Mistake::JoinReachBeforeMember => Claim::MembersTold,
         Mistake::ReadOfAnotherBlock => Claim::ReadsBook,
         Mistake::SoundIgnoresTentative => Claim::TestAgrees,
         Mistake::StageTwoWithoutProposal => Claim::NamedAsDefined,

@@ -1,4 +1,4 @@
-//! Every state of one disk with small numbers, sound or not, for the claim about the test of soundness.
+//! Every state of one disk with small numbers, sound or not, for what is said of any state.
 
 use crate::label::Label;
 use crate::sets::DiskSet;

@@ -9,6 +9,7 @@ use reference::naming::{found_by_disks, named};
 use reference::random::Random;
 use reference::sets::DiskSet;
 use reference::small_states;
+use reference::sound_states;
 use reference::state::{Power, State};
 
 /// Explores a cabinet, and expects so many states and calls: a change of these numbers wants a reason.
@@ -103,26 +104,16 @@ fn names_agree(labels: &[Label; 8], reach: DiskSet) {
     assert_eq!(by_disks, defined, "{labels:?}");
 }
 
-/// The sets of a sound label of this disk of three.
-fn sets_of(disk: u8) -> Vec<DiskSet> {
-    let sets = DiskSet(7).sets_inside();
-    sets.filter(|x| x.is_empty() || x.has(disk)).collect()
+/// The labels of this disk of three. The stages do not look at dirty maps.
+fn clean_labels(disk: u8) -> Vec<Label> {
+    let mut labels = sound_states::labels(3, disk);
+    labels.retain(|label| label.dirty == 0);
+    labels
 }
 
 #[test]
 fn the_stages_agree_on_all_sound_labels_of_three_disks() {
-    let labels_of = |disk: u8| {
-        let sets = sets_of(disk);
-        let pair = |&committed: &DiskSet| {
-            sets_of(disk).into_iter().map(move |tentative| Label {
-                committed,
-                tentative,
-                dirty: 0,
-            })
-        };
-        sets.iter().flat_map(pair).collect::<Vec<Label>>()
-    };
-    let [first, second, third] = [0, 1, 2].map(labels_of);
+    let [first, second, third] = [0, 1, 2].map(clean_labels);
     let mut labels = [Label::ZERO; 8];
     for (a, b) in first.iter().flat_map(|a| second.iter().map(move |b| (a, b))) {
         for c in &third {

@@ -124,8 +124,9 @@ fn join_refuses() {
     keeps_all(BufferLength, beyond, stopped(), (AREA - 64, 0));
     keeps_all(Stopped, beyond, stopped(), (AREA, 0));
     keeps_all(NoSuchDisk, beyond, running(), (AREA, 0));
-    keeps_all(DiskOffline, join, reaching(2, running()), (AREA, 0));
     keeps_all(DiskCurrent, join, running(), (AREA, 0));
+    keeps_all(DiskCurrent, join, reaching(0, running()), (AREA, 0));
+    keeps_all(DiskOffline, join, reaching(0, one_current()), (AREA, 0));
     keeps_all(NoneLive, join, reaching(1, one_current()), (AREA, 0));
     let cut = State {
         current: 0,

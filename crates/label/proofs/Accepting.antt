@@ -12,7 +12,7 @@ use Rattle.sets.specs.Sets.{below}
 use Rattle.sets.proofs.Tests.{Test, passes, fails, test, or-parts}
 use Rattle.sets.proofs.Bounds.{below-pow}
 use Rattle.refusals.specs.Refusals.{firstOf}
-use Rattle.refusals.proofs.Order.{none-at}
+use Rattle.refusals.proofs.Order.{none-at, none-by}
 use Rattle.label.specs.declared.Form.{Form}
 use Rattle.label.specs.Form.{Roomy}
 use Rattle.label.specs.Bytes.{labelLength, encode}
@@ -33,8 +33,8 @@ pub writer-accepts : (f : Form) (d n : ℕ) (l : Label) (room : ℕ) → writeRe
     → Proper f d n l × (length (encode f d n l) ≤ room)
 unfolding writeRefusal writeRefusals
 writer-accepts f d n l room e =
-    let passed = none-at (writeRefusals f d n l room) refl e in
-    (record { count = passed 0; number = passed 1; sets = passed 2 }, ltb-false _ _ (passed 3))
+    let no = none-by (writeRefusals f d n l room) refl e in
+    (record { count = no 4; number = no 8; sets = no 20 }, ltb-false _ _ (no 21))
 
 pub accepted : (f : Form) (d n : ℕ) (l : Label) (room : ℕ) → Proper f d n l → length (encode f d n l) ≤ room
     → writeRefusal f d n l room ≡ 0

@@ -14,7 +14,7 @@ use Rattle.sets.proofs.Bounds.{below-pow, below-empty, below-members}
 use Rattle.sets.proofs.LowestMember.{non-empty}
 use Rattle.label.specs.declared.Label.{Label}
 use Rattle.refusals.specs.Refusals.{firstOf}
-use Rattle.refusals.proofs.Order.{none-at}
+use Rattle.refusals.proofs.Order.{none-by}
 use Rattle.label.specs.Bytes.{blank}
 use Rattle.protocol.specs.Geometry.{mostDisks, areaSize, regions}
 use Rattle.protocol.specs.States.{labelAt, committedAt, tentativeAt, zeroState, source}
@@ -132,8 +132,8 @@ started-consistent n b range = record {
 pub format-passed : (n b : ℕ) (area : List ℕ) → firstOf (formatRefusals n b area) ≡ 0 → InRange n b
 unfolding formatRefusals
 format-passed n b area e =
-    let no = none-at (formatRefusals n b area) refl e in
-    right-counts n b .0 (no 0, no 1)
+    let no = none-by (formatRefusals n b area) refl e in
+    right-counts n b .0 (no 4, no 5)
 
 pub format-is-done : FormatDone
 unfolding formatOutcome refusedOr formatRefusals firstOf

@@ -46,4 +46,5 @@ pub mod Demand3
 pub mod ReadsRight
 pub mod WritesCount
 pub mod WriteBound
+pub mod MembersTold
 pub mod SoundnessKept

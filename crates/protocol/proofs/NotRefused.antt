@@ -8,7 +8,7 @@ use lib.ListN.{length}
 use borrow.Author.Tests.{eqb-true, ltb-true, not-false}
 use Rattle.sets.proofs.Tests.{clash, positive}
 use Rattle.refusals.specs.Refusals.{firstOf}
-use Rattle.refusals.proofs.Order.{none-at}
+use Rattle.refusals.proofs.Order.{none-by}
 use Rattle.protocol.specs.declared.Power.{Power}
 use Rattle.protocol.specs.declared.Power.the-variants.{Stopped, Running}
 use Rattle.protocol.specs.declared.State.{State}
@@ -51,14 +51,14 @@ pub block-passed : (s : State) (area : List ℕ) (k : ℕ) (bytes : List ℕ) �
     → BlockPassed s area k bytes
 unfolding blockRefusals
 block-passed s area k bytes e =
-    let no = none-at (blockRefusals s area k bytes) refl e in
+    let no = none-by (blockRefusals s area k bytes) refl e in
     record {
-      fit = sound-if s (no 0);
-      size = area-if s area (no 1);
-      full = eqb-true _ _ (not-false _ (no 2));
-      runs = runs-if (s .power) (no 3);
-      known = ltb-true _ _ (not-false _ (no 4));
-      some = positive (live s) (no 5);
+      fit = sound-if s (no 1);
+      size = area-if s area (no 2);
+      full = eqb-true _ _ (not-false _ (no 3));
+      runs = runs-if (s .power) (no 6);
+      known = ltb-true _ _ (not-false _ (no 9));
+      some = positive (live s) (no 12);
     }
 
 pub record JoinPassed (s : State) (area : List ℕ) (d : ℕ) : Type 0 where
@@ -71,13 +71,13 @@ pub record JoinPassed (s : State) (area : List ℕ) (d : ℕ) : Type 0 where
 pub join-passed : (s : State) (area : List ℕ) (d : ℕ) → firstOf (joinRefusals s area d) ≡ 0 → JoinPassed s area d
 unfolding joinRefusals
 join-passed s area d e =
-    let no = none-at (joinRefusals s area d) refl e in
+    let no = none-by (joinRefusals s area d) refl e in
     record {
-      fit = sound-if s (no 0);
-      size = area-if s area (no 1);
-      runs = runs-if (s .power) (no 2);
-      known = ltb-true _ _ (not-false _ (no 3));
-      some = positive (live s) (no 6);
+      fit = sound-if s (no 1);
+      size = area-if s area (no 2);
+      runs = runs-if (s .power) (no 6);
+      known = ltb-true _ _ (not-false _ (no 8));
+      some = positive (live s) (no 12);
     }
 
 pub record CleanPassed (s : State) : Type 0 where
@@ -87,8 +87,8 @@ pub record CleanPassed (s : State) : Type 0 where
 pub clean-passed : (s : State) → firstOf (cleanRefusals s) ≡ 0 → CleanPassed s
 unfolding cleanRefusals
 clean-passed s e =
-    let no = none-at (cleanRefusals s) refl e in
-    record { fit = sound-if s (no 0); runs = runs-if (s .power) (no 1) }
+    let no = none-by (cleanRefusals s) refl e in
+    record { fit = sound-if s (no 1); runs = runs-if (s .power) (no 6) }
 
 names-one-if : (f : Found) → eqb (foundNumber f) 13 ≡ false → eqb (foundNumber f) 14 ≡ false → f ≡ one (theSet f)
 names-one-if none p q = clash refl p
@@ -104,12 +104,12 @@ pub record RestartPassed (s : State) (area : List ℕ) : Type 0 where
 pub restart-passed : (s : State) (area : List ℕ) → firstOf (restartRefusals s area) ≡ 0 → RestartPassed s area
 unfolding restartRefusals
 restart-passed s area e =
-    let no = none-at (restartRefusals s area) refl e in
-    let fit = sound-if s (no 0) in
+    let no = none-by (restartRefusals s area) refl e in
+    let fit = sound-if s (no 1) in
     record {
       fit = fit;
-      size = area-if s area (no 1);
-      is-candidate = found-candidate (rw (names-one-if (foundBy s) (no 3) (no 4)) at (found-names s fit));
+      size = area-if s area (no 2);
+      is-candidate = found-candidate (rw (names-one-if (foundBy s) (no 13) (no 14)) at (found-names s fit));
     }
 
 pub record ReachPassed (s : State) (d : ℕ) : Type 0 where
@@ -119,5 +119,5 @@ pub record ReachPassed (s : State) (d : ℕ) : Type 0 where
 pub reach-passed : (s : State) (d : ℕ) → firstOf (reachRefusals s d) ≡ 0 → ReachPassed s d
 unfolding reachRefusals
 reach-passed s d e =
-    let no = none-at (reachRefusals s d) refl e in
-    record { fit = sound-if s (no 0); known = ltb-true _ _ (not-false _ (no 1)) }
+    let no = none-by (reachRefusals s d) refl e in
+    record { fit = sound-if s (no 1); known = ltb-true _ _ (not-false _ (no 8)) }

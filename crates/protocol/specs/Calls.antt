@@ -94,15 +94,16 @@ writeOutcome s area output k bytes budget =
 
 -- ---- join
 
--- "Join: 6. 8, d is not below n. 10, d is out of reach. 11, d is in G. 12. 15."
+-- "Join: 6. 8, d is not below n." Then, since "membership is tested before reach in a join" (document 02, 2.1), "11, d
+-- is in G. 10, d is out of reach. 12. 15."
 unfoldable pub joinRefusals : State → List ℕ → ℕ → List (ℕ × Bool)
 joinRefusals s area d =
     unsound s ∷
     areaUnfit s area ∷
     stopped s ∷
     noSuchDisk s d ∷
-    (10, not (has (s .online) d)) ∷
     (11, has (currentOf (s .power)) d) ∷
+    (10, not (has (s .online) d)) ∷
     noneLive s ∷
     []
 

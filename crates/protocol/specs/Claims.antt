@@ -1,19 +1,22 @@
 -- What else is proved of the calls, and of every list of them, beside demand 3.
 use mathlib.Core.Path.{_≡_}
 use mathlib.Core.Logic.{_≢_}
+use mathlib.Core.Bool.{true}
 use mathlib.Core.List.{List, [], _∷_, _++_}
 use Prim.Native.Nat.{ℕ, _+_, _*_, _≤_, _<_}
 use lib.ListN.{length}
-use Rattle.sets.specs.Sets.{size}
+use Rattle.sets.specs.Sets.{has, size}
 use Rattle.protocol.specs.declared.Answer.{Answer}
 use Rattle.protocol.specs.declared.Call.the-variants.{Read, Write}
+use Rattle.protocol.specs.declared.Power.the-variants.{Running}
 use Rattle.protocol.specs.declared.State.{State}
 use Rattle.protocol.specs.Geometry.{areaSize}
 use Rattle.protocol.specs.States.{live, source}
 use Rattle.protocol.specs.Soundness.{InRange, Sound, Proper}
 use Rattle.protocol.specs.Stores.{Store, write}
 use Rattle.protocol.specs.Lists.{preparations, writeList}
-use Rattle.protocol.specs.Calls.{formatOutcome, writeOutcome}
+use Rattle.protocol.specs.Outcomes.{outcome}
+use Rattle.protocol.specs.Calls.{formatOutcome, writeOutcome, joinOutcome}
 use Rattle.protocol.specs.Saving.{saveOutcome, assembleAnswer}
 use Rattle.protocol.specs.History.{Step, Cabinet, outcomeOf}
 use Rattle.protocol.specs.Reference.{Contents, replaced, carriedBy, afterWrites}
@@ -78,6 +81,15 @@ abbrev pub WritesCount : Type 0
 WritesCount =
     (c : Cabinet) (k budget : ℕ) (bytes output : List ℕ) (contents : Contents)
     → Counting c k budget bytes output contents
+
+-- ---- joins
+
+-- What the technician relies on ("membership is tested before reach in a join", document 02, 2.1): a running cabinet
+-- says of a current disk that it is one, pulled or not, even where no current disk is in reach.
+abbrev pub MembersTold : Type 0
+MembersTold =
+    (s : State) (area output : List ℕ) (g d budget : ℕ) → Sound s → length area ≡ areaSize (s .disks) (s .blocks)
+    → s .power ≡ Running g → has g d ≡ true → joinOutcome s area output d budget ≡ outcome 11 0 s area output
 
 -- ---- reads
 

@@ -17,7 +17,7 @@ use Rattle.label.specs.declared.Label.{Label}
 use Rattle.label.specs.declared.Reading.{Reading}
 use Rattle.refusals.specs.Refusals.{firstOf}
 use Rattle.label.specs.Reading.{reading}
-use Rattle.refusals.proofs.Order.{none-at}
+use Rattle.refusals.proofs.Order.{none-by}
 use Rattle.label.proofs.Accepting.{in-range}
 use Rattle.protocol.specs.declared.Power.the-variants.{Stopped}
 use Rattle.protocol.specs.declared.State.{State}
@@ -105,9 +105,9 @@ pub arguments-passed : (n b online : ℕ) (slots : List ℕ) → firstOf (take 4
     → ArgumentsPassed n b slots
 unfolding assembleRefusals
 arguments-passed n b online slots e =
-    let no = none-at (take 4 (assembleRefusals n b online slots)) refl e in
+    let no = none-by (take 4 (assembleRefusals n b online slots)) refl e in
     record {
-      disks = in-range labelForm n (no 0) .1;
-      blocks = ltb-false _ _ (or-parts (ltb b 1) (ltb mostBlocks b) (no 1) .1);
+      disks = in-range labelForm n (no 4) .1;
+      blocks = ltb-false _ _ (or-parts (ltb b 1) (ltb mostBlocks b) (no 5) .1);
       size = eqb-true _ _ (not-false _ (no 2));
     }

@@ -15,7 +15,7 @@ use Rattle.refusals.specs.Refusals.{firstOf}
 use Rattle.label.specs.Rules.{wrongSets}
 use Rattle.buffers.specs.Buffers.{splice}
 use Rattle.label.specs.Writing.{writeRefusal, written, writtenBytes}
-use Rattle.refusals.proofs.Order.{none-at}
+use Rattle.refusals.proofs.Order.{none-by}
 use Rattle.label.proofs.Accepting.{accepted}
 use Rattle.protocol.specs.declared.State.{State}
 use Rattle.protocol.specs.Geometry.{labelForm}
@@ -114,5 +114,5 @@ pub save-passed : (s : State) (slots : List ℕ) → firstOf (saveRefusals s slo
     → Sound s × (length slots ≡ slotSize * s .disks)
 unfolding saveRefusals
 save-passed s slots e =
-    let no = none-at (saveRefusals s slots) refl e in
-    (test-agrees s .0 (not-false _ (no 0)), eqb-true _ _ (not-false _ (no 1)))
+    let no = none-by (saveRefusals s slots) refl e in
+    (test-agrees s .0 (not-false _ (no 1)), eqb-true _ _ (not-false _ (no 2)))

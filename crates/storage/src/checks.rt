@@ -49,7 +49,7 @@ pub(crate) fn block_refusal(s: State, area: usize, k: usize, bytes: usize) -> u8
     ])
 }
 
-// "Join: 6. 8, d is not below n. 10, d is out of reach. 11, d is in G. 12."
+// "Join: 6. 8, d is not below n." Then, as document 02's 2.1 has it, "11, d is in G. 10, d is out of reach. 12."
 pub(crate) fn join_refusal(s: State, area: usize, d: usize) -> u8
     ensures { λ r. ⌜ ((held : List ℕ) → length held ≡ area → r ≡ firstOf (joinRefusals s held d)) ⌝ }
 {
@@ -66,8 +66,8 @@ pub(crate) fn join_refusal(s: State, area: usize, d: usize) -> u8
         Refusal(BUFFER_LENGTH, !fits),
         Refusal(STOPPED, !running),
         Refusal(NO_SUCH_DISK, !(d < disks)),
-        Refusal(DISK_OFFLINE, !online),
         Refusal(DISK_CURRENT, member),
+        Refusal(DISK_OFFLINE, !online),
         Refusal(NONE_LIVE, live == 0),
         PASSED,
     ])

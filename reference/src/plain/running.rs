@@ -34,7 +34,7 @@ pub fn write(state: State, area: &mut [u8], block: usize, data: &[u8], supply: u
     })
 }
 
-/// Join: 1, 2, 6, 8, 10, 11, 12, 15. "If L differs from G, move to L. Copy all blocks, ascending, from the lowest
+/// Join: 1, 2, 6, 8, 11, 10, 12, 15. "If L differs from G, move to L. Copy all blocks, ascending, from the lowest
 /// member of L to d. Then move to L with d." The blocks of a disk are neighbours, and go to one copy.
 pub fn join(state: State, area: &mut [u8], disk: usize, supply: u16) -> Answer {
     let live = live_for_join(&state, area.len(), disk);
@@ -80,8 +80,8 @@ fn live_for_join(state: &State, area: usize, disk: usize) -> Result<u8, u8> {
     refuse(WRONG_LENGTH, area != state.area_length())?;
     refuse(STOPPED, state.current == 0)?;
     refuse(NO_SUCH_DISK, disk >= state.disks.into())?;
-    refuse(OUT_OF_REACH, !has(state.reach, disk))?;
     refuse(ALREADY_MEMBER, has(state.current, disk))?;
+    refuse(OUT_OF_REACH, !has(state.reach, disk))?;
     refuse(NONE_LIVE, state.live() == 0)?;
     Ok(state.live())
 }
