@@ -87,7 +87,7 @@ impl State {
     /// Makes a disk in reach current: it gets all blocks, then the cabinet moves to the current disks in reach and this
     /// one.
     ///
-    /// Refusals: 1 not sound, 2 the area's length, 6 stopped, 8 no such disk, 11 already current, in reach or not, 10
+    /// Refusals: 1 not sound, 2 the area's length, 6 stopped, 8 no such disk, 11 already current (in reach or not), 10
     /// out of reach, 12 no current disk in reach, 15 the power lost.
     #[inline]
     pub fn join(self, area: &mut [u8], disk: usize, budget: u16) -> Answer {
