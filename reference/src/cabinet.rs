@@ -156,7 +156,7 @@ impl Cabinet {
         }))
     }
 
-    /// Join: 1, 2, 6, 8, 11, 10, 12, 15. "Membership is tested before reach in a join" (request 2.1).
+    /// Join: 1, 2, 6, 8, 11, 10, 12, 15: "membership is tested before reach in a join" (request 2.1).
     pub fn join(&mut self, disk: u16, supply: u16) -> Answer {
         let beyond = disk >= self.state.disks.into();
         let is_in = |set: DiskSet| !beyond && set.has(disk as u8);

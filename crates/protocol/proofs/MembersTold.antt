@@ -1,7 +1,7 @@
 -- A join of a current disk, pulled or not, is told that it is current. Assumes nothing.
+use borrow.Author.Tests.{eq-eqb, lt-ltb}
 use Rattle.sets.proofs.Bounds.{below-members}
 use Rattle.refusals.specs.Refusals.{firstOf}
-use borrow.Author.Tests.{eq-eqb, lt-ltb}
 use Rattle.protocol.specs.Outcomes.{refusedOr}
 use Rattle.protocol.specs.Calls.{joinRefusals, joinOutcome}
 use Rattle.protocol.specs.Claims.{MembersTold}

@@ -94,8 +94,8 @@ writeOutcome s area output k bytes budget =
 
 -- ---- join
 
--- "Join: 6. 8, d is not below n." Then, since "membership is tested before reach in a join" (document 02, 2.1), "11, d
--- is in G. 10, d is out of reach. 12. 15."
+-- "Join: 6. 8, d is not below n. 10, d is out of reach. 11, d is in G. 12. 15." Document 02, 2.1, puts 11 before 10:
+-- "From now on membership is tested before reach in a join."
 unfoldable pub joinRefusals : State → List ℕ → ℕ → List (ℕ × Bool)
 joinRefusals s area d =
     unsound s ∷

@@ -56,7 +56,7 @@ abbrev pub placeOf : ℕ → List (ℕ × Bool) → ℕ
 placeOf number [] = 0
 placeOf number (refusal ∷ later) = cond (eqb (refusal .0) number) 0 (suc (placeOf number later))
 
--- `none-at` by the refusal's number: what a proof takes from a paragraph so does not depend on its order
+-- `none-at` by the refusal's number: what a proof takes from a paragraph then does not depend on its order
 pub none-by : (refusals : List (ℕ × Bool)) → numbered refusals ≡ true → firstOf refusals ≡ 0 → (number : ℕ)
     → (getD refusals (placeOf number refusals) (1, false)) .1 ≡ false
 none-by refusals h e number = none-at refusals h e (placeOf number refusals)

@@ -49,7 +49,7 @@ pub(crate) fn block_refusal(s: State, area: usize, k: usize, bytes: usize) -> u8
     ])
 }
 
-// "Join: 6. 8, d is not below n." Then, as document 02's 2.1 has it, "11, d is in G. 10, d is out of reach. 12."
+// "Join: 6. 8, d is not below n. 10, d is out of reach. 11, d is in G. 12.", with 11 before 10 by document 02's 2.1.
 pub(crate) fn join_refusal(s: State, area: usize, d: usize) -> u8
     ensures { λ r. ⌜ ((held : List ℕ) → length held ≡ area → r ≡ firstOf (joinRefusals s held d)) ⌝ }
 {
