@@ -1,5 +1,5 @@
-/* Document 01's session, then clean, save, assemble and labels: each function of the header, and each field of its
-   structs. */
+/* Document 01's session, then clean, save, assemble, diagnose and labels: each function of the header, and each field of
+   its structs. */
 #include "cabinet.h"
 #include <stdio.h>
 #include <string.h>
@@ -21,6 +21,15 @@ static void labels(void)
     struct cabinet_reading r = cabinet_read_label(bytes, sizeof bytes);
     printf("%d %zu of %zu, %d %d %d, %zu\n", r.refusal, r.number, r.disks, r.label.committed, r.label.tentative,
            r.label.dirty, r.length);
+}
+
+/* Why the disk is not current, by each stage and by one that there is not. */
+static void diagnoses(struct cabinet_state state, size_t disk)
+{
+    for (size_t stage = 1; stage <= 4; stage++) {
+        struct cabinet_diagnosis d = cabinet_diagnose(state, stage, disk);
+        printf("%d %d %zu %d\n", d.refusal, d.reason, d.disk, d.set);
+    }
 }
 
 int main(void)
@@ -47,6 +56,7 @@ int main(void)
     printf("%d disks of %d blocks\n", s.disks, s.blocks);
     for (int d = 0; d < CABINET_MOST_DISKS; d++)
         printf("%d %d %d\n", s.labels[d].committed, s.labels[d].tentative, s.labels[d].dirty);
+    diagnoses(s, 1);
     labels();
     return 0;
 }

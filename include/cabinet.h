@@ -1,7 +1,7 @@
 /*
- * The calls of the cohort-set disk cabinet (document 01), for C99 and C++ on x86-64 Linux. Each function is proved to
- * give what the definition of its call says: crates/protocol/specs/Calls.antt and Saving.antt, and
- * crates/label/specs/Reading.antt and Writing.antt.
+ * The calls of the cohort-set disk cabinet (documents 01 and 02), for C99 and C++ on x86-64 Linux. Each function is
+ * proved to give what the definition of its call says: crates/protocol/specs/Calls.antt, Diagnosis.antt and Saving.antt,
+ * and crates/label/specs/Reading.antt and Writing.antt.
  *
  * Build and link:  ./library
  *                  cc -Iinclude program.c target/libcabinet.a
@@ -65,6 +65,14 @@ struct cabinet_answer {
     uint8_t refusal; /* an enum cabinet_refusal */
 };
 
+/* Why a disk is not current. Refused, all but the refusal is 0. */
+struct cabinet_diagnosis {
+    size_t disk;     /* the lowest disk of the set that is not online, or that disagrees; else 0 */
+    uint8_t refusal; /* an enum cabinet_refusal */
+    uint8_t reason;  /* an enum cabinet_reason */
+    uint8_t set;     /* the set that a restart would find now, if it would find one without the disk; else 0 */
+};
+
 /* What the bytes of a label say. Refused, all but the refusal is 0. */
 struct cabinet_reading {
     uint8_t refusal; /* an enum cabinet_refusal */
@@ -79,7 +87,7 @@ struct cabinet_written {
     size_t length;   /* of the label in bytes, 2 to 5; refused, 0 */
 };
 
-/* Document 01's numbers. A call gives the first in its own order whose condition holds. */
+/* The papers' numbers. A call gives the first in its own order whose condition holds. */
 enum cabinet_refusal {
     CABINET_DONE = 0,
     CABINET_UNSOUND = 1,            /* the state is not sound */
@@ -103,7 +111,19 @@ enum cabinet_refusal {
     CABINET_LABEL_EMPTY_FIELD = 19, /* a field that the label's map names is 0 */
     CABINET_LABEL_SET = 20,         /* a set of the label names a disk that is not there, or omits its own */
     CABINET_NO_ROOM = 21,           /* the output is shorter than the label */
-    CABINET_NO_SUCH_REGION = 22     /* a dirty bit of the label names no region */
+    CABINET_NO_SUCH_REGION = 22,    /* a dirty bit of the label names no region */
+    CABINET_NO_SUCH_STAGE = 23      /* the stage is not 1, 2 or 3 */
+};
+
+/* Why a disk's own set (its tentative one if there is one, else its committed one) is no candidate of a stage. The first
+   in this order that is true is given. */
+enum cabinet_reason {
+    CABINET_NO_REASON = 0,     /* the call was refused */
+    CABINET_EMPTY = 1,         /* the set is empty: the disk has never been a member */
+    CABINET_OUT_OF_REACH = 2,  /* a disk of the set is not online */
+    CABINET_DISAGREES = 3,     /* a disk of the set has a label that disagrees with what the stage asks */
+    CABINET_NONE_PROPOSES = 4, /* in stage 2: no disk of the set has it as its tentative one */
+    CABINET_CANDIDATE = 5      /* it is a candidate */
 };
 
 /* A new cabinet: it runs, all disks are online and current, nothing is dirty, the area is all zero; 0 stores.
@@ -147,6 +167,12 @@ struct cabinet_answer cabinet_attach(struct cabinet_state state, size_t disk);
 /* Stops the cabinet, if it is not stopped; 0 stores.
    Refuses: 1. */
 struct cabinet_answer cabinet_power_off(struct cabinet_state state);
+
+/* Why the disk of a stopped cabinet is not current: what keeps its own set from being a candidate of the stage. In stage 1
+   every disk of the set must have it as its tentative set; in stage 2 every one as its tentative or its committed set,
+   and some as its tentative one; in stage 3 every one as its committed set. It changes nothing.
+   Refuses: 1, 7, 8, 23. */
+struct cabinet_diagnosis cabinet_diagnose(struct cabinet_state state, size_t stage, size_t disk);
 
 /* Writes each disk's label into its slot of 5 bytes, the rest of the slot zero; 0 stores, and the state as given.
    Refuses: 1, 2. */

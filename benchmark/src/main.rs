@@ -89,13 +89,13 @@ fn check(row: &Row) -> Result<u16, String> {
     let mut by_plain = by_proved.clone();
     let (_, proved) = PROVED.run(row, &mut by_proved, 1);
     let (_, plain) = PLAIN.run(row, &mut by_plain, 1);
-    if proved != plain || proved.result != row.result {
+    if proved != plain || proved.result() != row.result {
         return Err(format!("{}: proved {proved:?}, plain {plain:?}", row.name));
     }
     if by_proved != by_plain {
         return Err(format!("{}: the two sides leave different buffers", row.name));
     }
-    Ok(proved.stores)
+    Ok(proved.stores())
 }
 
 /// The longest restart again, beside copies of as many bytes.

@@ -9,8 +9,10 @@ pub const DISKS: usize = 8;
 pub const BLOCKS: usize = 64;
 /// The bytes of a block.
 pub const BLOCK_SIZE: usize = 64;
-/// The disk that is joined, detached and attached.
+/// The disk that is joined, detached, attached and asked about.
 pub const DISK: usize = 7;
+/// The stage that is asked about.
+pub const STAGE: usize = 3;
 /// The block that is read and written.
 pub const BLOCK: usize = 21;
 /// More than the longest list has.
@@ -28,6 +30,7 @@ pub enum Call {
     Detach,
     Attach,
     PowerOff,
+    Diagnose,
     Save,
     Assemble,
 }
@@ -89,6 +92,8 @@ pub fn rows() -> Vec<Row> {
         row("detach (lose)", Call::Detach, fresh()),
         row("attach (return)", Call::Attach, moved),
         row("power off (cut)", Call::PowerOff, fresh()),
+        row("diagnose, a candidate", Call::Diagnose, stopped(fresh())),
+        row("diagnose, out of reach", Call::Diagnose, stopped(moved)),
         row("save", Call::Save, dirty(fresh())),
         row("assemble", Call::Assemble, dirty(stopped(fresh()))),
         Row {

@@ -1,15 +1,40 @@
 //! The two sides: the proved calls by the bindings, and the same calls in plain Rust.
 
-use crate::rows::{Buffers, Call, Row, BLOCK, BLOCKS, DISK, DISKS, SUPPLY};
+use crate::rows::{Buffers, Call, Row, BLOCK, BLOCKS, DISK, DISKS, STAGE, SUPPLY};
 use crate::timing::repeat;
-use differential::implementations::{from_product, to_product};
+use differential::implementations::{from_product, to_product, told_by_product};
 use reference::plain;
 use std::hint::black_box;
 use std::time::Duration;
 
-/// The calls of a side by the product's names. States and answers are its own, so that no conversion is timed. A state
-/// lies in memory, as a caller keeps it, and each side takes it from there in its own way.
-pub struct Side<S, A> {
+/// What a call yields, in plain Rust's form: an answer, or what a diagnosis tells.
+#[derive(Debug, PartialEq, Eq)]
+pub enum Yielded {
+    Answer(plain::Answer),
+    Told(plain::Diagnosis),
+}
+
+impl Yielded {
+    /// 0, or the refusal's number.
+    pub fn result(&self) -> u8 {
+        match self {
+            Yielded::Answer(answer) => answer.result,
+            Yielded::Told(told) => told.result,
+        }
+    }
+
+    /// The number of stores made. A diagnosis makes none.
+    pub fn stores(&self) -> u16 {
+        match self {
+            Yielded::Answer(answer) => answer.stores,
+            Yielded::Told(_) => 0,
+        }
+    }
+}
+
+/// The calls of a side by the product's names. States, answers and diagnoses are its own, so that no conversion is
+/// timed. A state lies in memory, as a caller keeps it, and each side takes it from there in its own way.
+pub struct Side<S, A, D> {
     format: fn(usize, usize, &mut [u8]) -> A,
     read: fn(&S, &[u8], usize, &mut [u8]) -> A,
     write: fn(&S, &mut [u8], usize, &[u8], u16) -> A,
@@ -19,14 +44,16 @@ pub struct Side<S, A> {
     detach: fn(&S, usize) -> A,
     attach: fn(&S, usize) -> A,
     power_off: fn(&S) -> A,
+    diagnose: fn(&S, usize, usize) -> D,
     save: fn(&S, &mut [u8]) -> A,
     assemble: fn(usize, usize, u8, &[u8]) -> A,
     state: fn(plain::State) -> S,
     answer: fn(A) -> plain::Answer,
+    told: fn(D) -> plain::Diagnosis,
 }
 
 /// The proved product.
-pub const PROVED: Side<cabinet::State, cabinet::Answer> = Side {
+pub const PROVED: Side<cabinet::State, cabinet::Answer, cabinet::Diagnosis> = Side {
     format: cabinet::State::format,
     read: |state, area, block, output| state.read(area, block, output),
     write: |state, area, block, data, supply| state.write(area, block, data, supply),
@@ -36,14 +63,16 @@ pub const PROVED: Side<cabinet::State, cabinet::Answer> = Side {
     detach: |state, disk| state.detach(disk),
     attach: |state, disk| state.attach(disk),
     power_off: |state| state.power_off(),
+    diagnose: |state, stage, disk| state.diagnose(stage, disk),
     save: |state, slots| state.save(slots),
     assemble: cabinet::State::assemble,
     state: to_product,
     answer: plain_answer,
+    told: told_by_product,
 };
 
 /// Plain Rust.
-pub const PLAIN: Side<plain::State, plain::Answer> = Side {
+pub const PLAIN: Side<plain::State, plain::Answer, plain::Diagnosis> = Side {
     format: plain::fresh,
     read: |&state, area, block, output| plain::read(state, area, block, output),
     write: |&state, area, block, data, supply| plain::write(state, area, block, data, supply),
@@ -53,10 +82,12 @@ pub const PLAIN: Side<plain::State, plain::Answer> = Side {
     detach: |&state, disk| plain::lose(state, disk),
     attach: |&state, disk| plain::give_back(state, disk),
     power_off: |&state| plain::cut(state),
+    diagnose: plain::diagnose,
     save: |&state, slots| plain::save(state, slots),
     assemble: plain::assemble,
     state: |state| state,
     answer: |answer| answer,
+    told: |told| told,
 };
 
 fn plain_answer(answer: cabinet::Answer) -> plain::Answer {
@@ -67,10 +98,11 @@ fn plain_answer(answer: cabinet::Answer) -> plain::Answer {
     }
 }
 
-impl<S, A> Side<S, A> {
-    /// Makes the row's call so many times, each on the row's state, and gives the time of all and the last answer. The
-    /// calls go through pointers that the compiler cannot see through, so that none is inlined into the loop.
-    pub fn run(&self, row: &Row, buffers: &mut Buffers, calls: usize) -> (Duration, plain::Answer) {
+impl<S, A, D> Side<S, A, D> {
+    /// Makes the row's call so many times, each on the row's state, and gives the time of all and what the last one
+    /// yielded. The calls go through pointers that the compiler cannot see through, so that none is inlined into the
+    /// loop.
+    pub fn run(&self, row: &Row, buffers: &mut Buffers, calls: usize) -> (Duration, Yielded) {
         let side = black_box(self);
         let state = (side.state)(row.state);
         let state = || black_box(&state);
@@ -91,12 +123,16 @@ impl<S, A> Side<S, A> {
             Call::Detach => repeat(calls, || (side.detach)(state(), disk())),
             Call::Attach => repeat(calls, || (side.attach)(state(), disk())),
             Call::PowerOff => repeat(calls, || (side.power_off)(state())),
+            Call::Diagnose => {
+                let (time, told) = repeat(calls, || (side.diagnose)(state(), black_box(STAGE), disk()));
+                return (time, Yielded::Told((side.told)(told)));
+            }
             Call::Save => repeat(calls, || (side.save)(state(), black_box(slots))),
             Call::Assemble => {
                 let reach = || black_box(row.state.reach);
                 repeat(calls, || (side.assemble)(disks(), blocks(), reach(), black_box(slots)))
             }
         };
-        (time, (side.answer)(answer))
+        (time, Yielded::Answer((side.answer)(answer)))
     }
 }

@@ -46,7 +46,8 @@ fn fresh(random: &mut Random) -> Case {
 
 /// A call that takes a state.
 fn on_state(random: &mut Random, call: Call) -> Case {
-    let stopped = if call == Call::Restart { 90 } else { 20 };
+    let asks_stopped = matches!(call, Call::Restart | Call::Diagnose);
+    let stopped = if asks_stopped { 90 } else { 20 };
     let state = states::any(random, stopped);
     let area = if call.takes_area() {
         let right = usize::from(state.disks) * usize::from(state.blocks) * BLOCK;

@@ -35,6 +35,9 @@ pub fn call_on(random: &mut Random, call: Call, state: State, area: Vec<u8>, bad
         number: number_for(random, call, &state, bad),
         ..Case::new(call)
     };
+    if call == Call::Diagnose {
+        case.stage = number(random, 1..=3, bad);
+    }
     if let Some(right) = buffer_length(call, &state) {
         case.buffer = bytes(random, right, bad);
     }
@@ -61,6 +64,7 @@ fn number_for(random: &mut Random, call: Call, state: &State, bad: usize) -> usi
         Call::Join => disk(random, state, state.reach & !state.current, bad),
         Call::Lose => disk(random, state, state.reach, bad),
         Call::Return => disk(random, state, !state.reach, bad),
+        Call::Diagnose => disk(random, state, state.reach, bad),
         _ => 0,
     }
 }

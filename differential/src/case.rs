@@ -2,7 +2,7 @@
 
 use reference::plain::{Label, State};
 
-/// The calls, by the paper's names.
+/// The calls, by the papers' names.
 #[derive(Clone, Copy, Debug, PartialEq, Eq, PartialOrd, Ord)]
 pub enum Call {
     /// Fresh: n, b; the area.
@@ -23,6 +23,8 @@ pub enum Call {
     Return,
     /// Cut: the state.
     Cut,
+    /// Diagnose: the state, the stage, d.
+    Diagnose,
     /// Save: the state; the slots.
     Save,
     /// Assemble: n, b, R; the slots.
@@ -35,7 +37,7 @@ pub enum Call {
 
 impl Call {
     /// Every call, with its name in a line.
-    pub const ALL: [(Call, &'static str); 13] = [
+    pub const ALL: [(Call, &'static str); 14] = [
         (Call::Fresh, "fresh"),
         (Call::Read, "read"),
         (Call::Write, "write"),
@@ -45,6 +47,7 @@ impl Call {
         (Call::Lose, "lose"),
         (Call::Return, "return"),
         (Call::Cut, "cut"),
+        (Call::Diagnose, "diagnose"),
         (Call::Save, "save"),
         (Call::Assemble, "assemble"),
         (Call::ReadLabel, "read-label"),
@@ -90,6 +93,8 @@ pub struct Case {
     pub reach: u8,
     /// The number k of a block or d of a disk.
     pub number: usize,
+    /// The stage of a diagnosis.
+    pub stage: usize,
     /// The label to write.
     pub label: Label,
     /// The supply.
@@ -110,6 +115,7 @@ impl Case {
             blocks: 0,
             reach: 0,
             number: 0,
+            stage: 0,
             label: Label::default(),
             supply: 0,
             area: Vec::new(),

@@ -4,7 +4,7 @@ use crate::case::Case;
 use crate::counts::Counts;
 use crate::implementations::{Implementation, Outcome};
 use crate::{state_bytes, word};
-use reference::plain::Reading;
+use reference::plain::{Diagnosis, Reading};
 use std::fmt;
 use std::panic::{catch_unwind, AssertUnwindSafe};
 
@@ -75,6 +75,8 @@ impl fmt::Display for Outcome {
         } = self.reading;
         let label = word::word_of(&state_bytes::label_bytes(&label));
         write!(f, " reading={disk},{disks},{label},{length}")?;
+        let Diagnosis { reason, disk, set, .. } = self.told;
+        write!(f, " told={reason},{disk},{set}")?;
         write!(
             f,
             " area={} buffer={}",

@@ -15,15 +15,16 @@ const BAD: usize = 3;
 const LONGEST: usize = 400;
 
 /// The calls with their shares of a hundred, of a running and of a stopped cabinet. An assemble follows its save.
-const MIX: [(Call, usize, usize); 10] = [
+const MIX: [(Call, usize, usize); 11] = [
     (Call::Read, 15, 3),
-    (Call::Write, 32, 4),
+    (Call::Write, 31, 4),
     (Call::Join, 12, 3),
     (Call::Quiet, 7, 3),
-    (Call::Restart, 3, 45),
+    (Call::Restart, 3, 39),
     (Call::Lose, 12, 8),
     (Call::Return, 9, 24),
     (Call::Cut, 6, 3),
+    (Call::Diagnose, 1, 6),
     (Call::Save, 3, 6),
     (Call::Fresh, 1, 1),
 ];

@@ -35,13 +35,14 @@ impl Case {
     }
 
     /// Each argument by its key, as text.
-    fn fields(&self) -> [(&'static str, String); 9] {
+    fn fields(&self) -> [(&'static str, String); 10] {
         [
             ("state", word::word_of(&state_bytes::bytes_of(&self.state))),
             ("disks", self.disks.to_string()),
             ("blocks", self.blocks.to_string()),
             ("reach", self.reach.to_string()),
             ("number", self.number.to_string()),
+            ("stage", self.stage.to_string()),
             ("label", word::word_of(&state_bytes::label_bytes(&self.label))),
             ("supply", self.supply.to_string()),
             ("area", word::word_of(&self.area)),
@@ -57,6 +58,7 @@ impl Case {
             "blocks" => self.blocks = value.parse().ok()?,
             "reach" => self.reach = value.parse().ok()?,
             "number" => self.number = value.parse().ok()?,
+            "stage" => self.stage = value.parse().ok()?,
             "label" => self.label = state_bytes::label_of(&word::bytes_of(value)?)?,
             "supply" => self.supply = value.parse().ok()?,
             "area" => self.area = word::bytes_of(value)?,

@@ -8,6 +8,7 @@ use differential::histories::Histories;
 use differential::implementations::{Implementation, Outcome, Plain, Proved, Reference};
 use reference::mistakes::{Mistake, Rules};
 use reference::random::Random;
+use reference::refutation::IN_NO_HISTORY;
 
 /// The mistakes that no call shows: two are the book's, two are claims', and one is a law's.
 const HIDDEN: [Mistake; 5] = [
@@ -33,10 +34,9 @@ fn arbitrary_cases_find_each_mistake_of_the_reference() {
 
 #[test]
 fn histories_find_each_mistake_that_a_history_reaches() {
-    let unreached = [Mistake::SoundIgnoresTentative];
     for (mistake, name) in Mistake::ALL {
         let difference = found(&Reference(Rules::with(mistake)), Histories::new(Random::new(5)));
-        let reached = !HIDDEN.contains(&mistake) && !unreached.contains(&mistake);
+        let reached = !HIDDEN.contains(&mistake) && !IN_NO_HISTORY.contains(&mistake);
         assert_eq!(difference.is_some(), reached, "{name}");
     }
 }
@@ -78,6 +78,7 @@ fn a_change_of_anything_that_a_call_gives_is_found() {
         Meddling(Call::Lose, |outcome| outcome.state.labels[7].dirty ^= 128),
         Meddling(Call::ReadLabel, |outcome| outcome.reading.label.dirty ^= 128),
         Meddling(Call::WriteLabel, |outcome| outcome.reading.length ^= 1),
+        Meddling(Call::Diagnose, |outcome| outcome.told.set ^= 128),
     ];
     for meddler in meddlers {
         let difference = found(&meddler, Arbitrary(Random::new(5)));
@@ -102,11 +103,14 @@ impl Implementation for Mistaking {
 
 #[test]
 fn a_number_that_is_cut_to_fewer_bits_or_off_by_one_is_found() {
-    let mistakes: [fn(&mut Case); 12] = [
+    let mistakes: [fn(&mut Case); 15] = [
         |case| case.number = usize::from(case.number as u8),
         |case| case.number = usize::from(case.number as u16),
         |case| case.number = case.number as u32 as usize,
         |case| case.number &= usize::MAX >> 1,
+        |case| case.stage = usize::from(case.stage as u8),
+        |case| case.stage = usize::from(case.stage as u16),
+        |case| case.stage = case.stage as u32 as usize,
         |case| case.disks = case.disks as u32 as usize,
         |case| case.blocks = case.blocks as u32 as usize,
         |case| case.reach &= 0x7f,

@@ -42,7 +42,7 @@ impl Book {
     }
 
     /// Feeds a call to the book. If it is a write that counts, "then block k of the book becomes its data. The other
-    /// seven calls leave the book as it is."
+    /// seven calls leave the book as it is", and so does a diagnosis, which carries out no write.
     pub fn take(&mut self, call: &Call) -> Taken {
         let before = self.cabinet.state;
         let answer = self.cabinet.take(call, &mut [0; BLOCK]);

@@ -1,6 +1,7 @@
 //! The cabinet: a state and a disk area, and the calls with their refusals in the paper's order.
 
 use crate::call::Call;
+use crate::diagnosis;
 use crate::label::Label;
 use crate::lists;
 use crate::mistakes::{Mistake, Rules};
@@ -111,6 +112,7 @@ impl Cabinet {
             Call::Lose { disk } => self.lose(*disk),
             Call::Return { disk } => self.give_back(*disk),
             Call::Cut => self.cut(),
+            Call::Diagnose { stage, disk } => self.diagnose(*stage, *disk),
         }
     }
 
@@ -240,6 +242,15 @@ impl Cabinet {
             self.state.power = Power::Stopped;
             Answer::DONE
         }))
+    }
+
+    /// The number of a diagnosis, as an answer of the list: it makes no stores. What else it tells is for the asker.
+    fn diagnose(&self, stage: u32, disk: u32) -> Answer {
+        let told = diagnosis::diagnose(self.rules, &self.state, stage, disk);
+        Answer {
+            result: told.result,
+            stores: 0,
+        }
     }
 
     /// "If the list is longer than the supply, exactly the first supply stores are made, the cabinet is stopped, and

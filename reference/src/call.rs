@@ -1,4 +1,4 @@
-//! The eight calls of 'The list and the book', with their arguments.
+//! The calls of 'The list and the book' with their arguments: the paper's eight, and request 2.2's.
 
 /// One call. "Each with whatever numbers and with data and output of its own."
 #[derive(Clone, Debug, PartialEq, Eq)]
@@ -19,10 +19,13 @@ pub enum Call {
     Return { disk: u16 },
     /// Cut the power.
     Cut,
+    /// Tell why disk d is not current. Its numbers are wide, for 256 and 65,536 are no stages and no disks.
+    Diagnose { stage: u32, disk: u32 },
 }
 
 impl Call {
-    /// The call as a line of the cabinet program, which writes a block by its first byte.
+    /// The call as a line of the cabinet program, which writes a block by its first byte. The program has no letter for
+    /// a diagnosis, and would answer this line with 99.
     pub fn line(&self) -> String {
         match self {
             Call::Read { block } => format!("g {block}"),
@@ -33,6 +36,7 @@ impl Call {
             Call::Lose { disk } => format!("x {disk}"),
             Call::Return { disk } => format!("r {disk}"),
             Call::Cut => "c".to_string(),
+            Call::Diagnose { stage, disk } => format!("diagnose {stage} {disk}"),
         }
     }
 }

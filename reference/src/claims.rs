@@ -4,6 +4,7 @@ use crate::book::Book;
 use crate::cabinet::{Answer, Cabinet};
 use crate::call::Call;
 use crate::definitions;
+use crate::diagnosis::{Diagnosis, Reason};
 use crate::lists;
 use crate::mistakes::{Mistake, Rules};
 use crate::naming::{self, Found};
@@ -46,6 +47,14 @@ pub enum Claim {
     FinderAgrees,
     /// The test of soundness agrees with the definition; a claim about any state, not only reached ones.
     TestAgrees,
+    /// The reason of a diagnosis is true and the earliest. This and the next three are about any state too.
+    EarliestReason,
+    /// A diagnosis says 'a candidate' of candidates only, and of all of them.
+    CandidateTold,
+    /// The set of a diagnosis is the one that a restart would find without the disk.
+    OtherSet,
+    /// Where a restart gives 13, a diagnosis says neither 'a candidate' nor that none proposes the set.
+    MissingTold,
 }
 
 /// A call that was made: what was before it and what is after it.
@@ -56,6 +65,8 @@ pub struct Event<'a> {
     pub call: &'a Call,
     /// Its answer.
     pub answer: Answer,
+    /// What it told, if it is a diagnosis.
+    pub told: Option<Diagnosis>,
     /// The output that it was given, as it is after the call.
     pub output: &'a [u8],
     /// The cabinet after.
@@ -90,9 +101,17 @@ impl Claim {
         Claim::MembersTold,
     ];
 
+    /// The claims about each diagnosis that is made.
+    pub const OF_DIAGNOSES: [Claim; 4] = [
+        Claim::EarliestReason,
+        Claim::CandidateTold,
+        Claim::OtherSet,
+        Claim::MissingTold,
+    ];
+
     /// All claims.
     pub fn all() -> Vec<Claim> {
-        [&Claim::OF_CALLS[..], &Claim::OF_STATES[..]].concat()
+        [&Claim::OF_CALLS[..], &Claim::OF_DIAGNOSES, &Claim::OF_STATES].concat()
     }
 
     /// The claim in words, as these rules have it.
@@ -113,12 +132,21 @@ impl Claim {
                 let bound = write_bound(rules);
                 return format!("a write makes at most {bound} times as many stores as L has disks");
             }
-            Claim::RefusedUnchanged => "a refusal other than 15 counts no stores, keeps the state",
+            Claim::RefusedUnchanged => "a refusal other than 15, and a diagnosis, counts no stores, keeps the state",
             Claim::MembersTold => "a join of a current disk gives 11, in reach or not",
             Claim::SavedAssembles => "a saved state, assembled with its R, is the state after a cut",
             Claim::NamedAsDefined => "the stages name the set that the definition says",
             Claim::FinderAgrees => "the finder, with one set a disk, gives the definition's answer",
             Claim::TestAgrees => "the test of soundness gives the definition's answer",
+            Claim::EarliestReason => "the reason of a diagnosis is true of the disk's own set, and no earlier one is",
+            Claim::CandidateTold => "a diagnosis says 'a candidate' exactly where the own set is one of that stage",
+            Claim::OtherSet => {
+                "the set of a diagnosis is the one that a restart would find, \
+                 if it finds one and that lacks the disk, and else 0"
+            }
+            Claim::MissingTold => {
+                "where a restart gives 13, a diagnosis says neither 'a candidate' nor that none proposes the set"
+            }
         };
         words.to_string()
     }
@@ -155,10 +183,37 @@ impl Claim {
                 event.answer.stores <= write_bound(event.after.rules) * event.before.live().size()
             }
             (Claim::RefusedUnchanged, _) => {
-                let is_carried = [DONE, SUPPLY_ENDED].contains(&result);
+                let may_change = !matches!(event.call, Call::Diagnose { .. });
+                let is_carried = may_change && [DONE, SUPPLY_ENDED].contains(&result);
                 is_carried || event.answer.stores == 0 && event.after.state == *event.before
             }
             (Claim::MembersTold, Call::Join { disk, .. }) => result == ALREADY_MEMBER || !was_current(event, *disk),
+            (claim, Call::Diagnose { stage, disk }) => {
+                let (rules, asked) = (event.after.rules, (*stage, *disk));
+                let holds = |told| claim.holds_of_diagnosis(rules, event.before, asked, told);
+                event.told.is_none_or(holds)
+            }
+            _ => true,
+        }
+    }
+
+    /// Whether a claim about diagnoses holds of this one, which was asked for a stage and a disk. "Refused, it gives no
+    /// reason and 0 for the set."
+    pub fn holds_of_diagnosis(self, rules: Rules, state: &State, asked: (u32, u32), told: Diagnosis) -> bool {
+        let (stage, disk) = asked;
+        let Diagnosis { result, reason, set } = told;
+        if result != DONE {
+            return reason == Reason::None && set.is_empty();
+        }
+        let says_candidate = reason == Reason::Candidate;
+        match self {
+            Claim::EarliestReason => definitions::is_earliest_reason(state, stage, disk, reason),
+            Claim::CandidateTold => says_candidate == definitions::own_is_candidate(state, stage, disk),
+            Claim::OtherSet => set == definitions::other_set(state, disk),
+            Claim::MissingTold => {
+                let lacks_little = says_candidate || reason == Reason::NoneProposes;
+                !lacks_little || naming::named(rules, &state.labels, state.reach) != Found::None
+            }
             _ => true,
         }
     }

@@ -1,6 +1,7 @@
-//! Two of the paper's definitions once more, in other words than in `state` and `naming`, so that the claims about the
-//! test of soundness and about the stages compare two things.
+//! The papers' definitions once more, in other words than in `state`, `naming` and `diagnosis`, so that the claims
+//! about the test of soundness, about the stages and about diagnoses compare two things.
 
+use crate::diagnosis::Reason;
 use crate::label::Label;
 use crate::naming::Found;
 use crate::sets::DiskSet;
@@ -39,7 +40,7 @@ pub fn is_sound(state: &State) -> bool {
 
 /// 'Which set a restart names': of all sets X inside R, those whose first stage comes first. One of them is the set.
 pub fn named(labels: &[Label; 8], reach: DiskSet) -> Found {
-    let inside = (1..=255).filter(|x| x & reach.0 == *x);
+    let inside = (1..=reach.0).filter(|x| x & reach.0 == *x);
     let staged: Vec<(u8, u8)> = inside
         .filter_map(|x| first_stage(labels, x).map(|stage| (stage, x)))
         .collect();
@@ -59,14 +60,73 @@ pub fn named(labels: &[Label; 8], reach: DiskSet) -> Found {
 
 /// The first stage in which X is a candidate.
 fn first_stage(labels: &[Label; 8], x: u8) -> Option<u8> {
-    let members: Vec<&Label> = (0..8).filter(|d| x >> d & 1 == 1).map(|d| &labels[d]).collect();
-    let tentative = members.iter().filter(|l| l.tentative.0 == x).count();
-    let committed = members.iter().filter(|l| l.committed.0 == x).count();
-    let either = members
-        .iter()
-        .filter(|l| l.tentative.0 == x || l.committed.0 == x)
-        .count();
-    let all = members.len();
-    let stages = [tentative == all, either == all && tentative > 0, committed == all];
-    (1..).zip(stages).find(|(_, fits)| *fits).map(|(stage, _)| stage)
+    let mut stages = (1..).zip(stages(labels, x));
+    stages.find(|(_, fits)| *fits).map(|(stage, _)| stage)
+}
+
+/// Of each stage, whether X fits it.
+fn stages(labels: &[Label; 8], x: u8) -> [bool; 3] {
+    let members = (0..8).filter(|d| x >> d & 1 == 1).map(|d| &labels[d]);
+    let count = |fits: fn(&Label, u8) -> bool| members.clone().filter(|l| fits(l, x)).count();
+    let tentative = count(|l, x| l.tentative.0 == x);
+    let committed = count(|l, x| l.committed.0 == x);
+    let either = count(|l, x| l.tentative.0 == x || l.committed.0 == x);
+    let all = count(|_, _| true);
+    [tentative == all, either == all && tentative > 0, committed == all]
+}
+
+/// T and C of a disk.
+fn sets(state: &State, disk: u8) -> [u8; 2] {
+    let label = state.labels[disk as usize];
+    [label.tentative.0, label.committed.0]
+}
+
+/// "One disk's own set": the first of T and C that is not 0.
+fn own_set(state: &State, disk: u32) -> u8 {
+    let mut sets = sets(state, disk as u8).into_iter();
+    sets.find(|set| *set != 0).unwrap_or(0)
+}
+
+/// Whether the disk's own set is a candidate of this stage, from 1: "a non-empty set X inside R" that fits it.
+pub fn own_is_candidate(state: &State, stage: u32, disk: u32) -> bool {
+    let x = own_set(state, disk);
+    x != 0 && x & state.reach.0 == x && stages(&state.labels, x)[stage as usize - 1]
+}
+
+/// Whether the reason is true of the disk's own set in this stage, and none that comes earlier is.
+pub fn is_earliest_reason(state: &State, stage: u32, disk: u32, reason: Reason) -> bool {
+    let of_disks = [Reason::OutOfReach, Reason::Disagrees];
+    let of_each_disk = of_disks.into_iter().flat_map(|kind| (0..8).map(kind));
+    let mut all = of_each_disk.chain([Reason::Empty, Reason::NoneProposes, Reason::Candidate]);
+    let is_true = |reason| is_true(state, stage, disk, reason);
+    is_true(reason) && !all.any(|other| other.number() < reason.number() && is_true(other))
+}
+
+/// Whether a reason is true, as a statement about the members of the disk's own set.
+fn is_true(state: &State, stage: u32, disk: u32, reason: Reason) -> bool {
+    let x = own_set(state, disk);
+    let is_member = |d: &u8| x >> d & 1 == 1;
+    let lower = |d: u8| (0..d).filter(is_member);
+    let is_lost = |d: u8| state.reach.0 >> d & 1 == 0;
+    let asked_sets = match stage {
+        1 => 0..1,
+        2 => 0..2,
+        _ => 1..2,
+    };
+    let disagrees = |d: u8| !sets(state, d)[asked_sets.clone()].contains(&x);
+    match reason {
+        Reason::None => false,
+        Reason::Empty => x == 0,
+        Reason::OutOfReach(d) => is_member(&d) && is_lost(d) && !lower(d).any(is_lost),
+        Reason::Disagrees(d) => is_member(&d) && disagrees(d) && !lower(d).any(disagrees),
+        Reason::NoneProposes => stage == 2 && lower(8).all(|d| sets(state, d)[0] != x),
+        Reason::Candidate => own_is_candidate(state, stage, disk),
+    }
+}
+
+/// "A set without the asked disk" that a restart would find: of all sets the one that is so, and 0 if none is.
+pub fn other_set(state: &State, disk: u32) -> DiskSet {
+    let found = named(&state.labels, state.reach);
+    let mut lacking = (1..=255_u8).filter(|x| x >> disk & 1 == 0).map(DiskSet);
+    lacking.find(|x| found == Found::One(*x)).unwrap_or_default()
 }

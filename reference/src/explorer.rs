@@ -1,10 +1,11 @@
-//! Every reachable state of a small cabinet, with the book: from fresh, under all eight calls, with the power cut
+//! Every reachable state of a small cabinet, with the book: from fresh, under all nine calls, with the power cut
 //! after every store, and every disk lost and returned. Breadth first, so the first history on which a claim fails is
 //! a shortest one.
 
 use crate::cabinet::Answer;
 use crate::call::Call;
 use crate::claims::Claim;
+use crate::diagnosis::questions;
 use crate::mistakes::Rules;
 use crate::packing::{pack, unpack};
 use crate::program::Reply;
@@ -12,6 +13,7 @@ use crate::refusal::SUPPLY_ENDED;
 use crate::state::{State, BLOCK};
 use crate::trial::Trial;
 use std::collections::HashSet;
+use std::fmt::Display;
 
 /// The n and b of the cabinets that are explored, in this order.
 pub const SIZES: [(u16, u16); 6] = [(1, 1), (1, 2), (2, 1), (3, 1), (2, 2), (3, 2)];
@@ -45,6 +47,7 @@ enum Step {
     Lose { disk: u8 },
     Return { disk: u8 },
     Cut,
+    Diagnose { stage: u32, disk: u32 },
 }
 
 /// A state that was visited: how it came to be.
@@ -156,7 +159,10 @@ impl Explorer<'_> {
             let outcome = trial.take(&call, &mut output, &[claim]);
             failed = outcome.failed.or_else(|| trial.failing_in_state(&[claim]));
             let reply = Reply::to_call(&call, outcome.answer, &trial.cabinet.state, &output);
-            history.push(line_of(&call.line(), reply));
+            history.push(match outcome.told {
+                Some(diagnosis) => line_of(&call.line(), diagnosis),
+                None => line_of(&call.line(), reply),
+            });
         }
         assert_eq!(failed, Some(claim), "the history fails when it is run anew");
         Failure { claim, history }
@@ -164,7 +170,7 @@ impl Explorer<'_> {
 }
 
 /// A line of a history with its reply.
-fn line_of(line: &str, reply: Reply) -> String {
+fn line_of(line: &str, reply: impl Display) -> String {
     format!("{line:<9} -> {reply}")
 }
 
@@ -187,6 +193,7 @@ impl Step {
             Step::Lose { disk } => Call::Lose { disk: disk.into() },
             Step::Return { disk } => Call::Return { disk: disk.into() },
             Step::Cut => Call::Cut,
+            Step::Diagnose { stage, disk } => Call::Diagnose { stage, disk },
         }
     }
 }
@@ -198,8 +205,8 @@ fn written(trial: &Trial, block: u8, differs: u8) -> Vec<u8> {
     vec![book.unwrap_or(&0) ^ differs; BLOCK]
 }
 
-/// The steps on n disks of b blocks: every block and disk that exists, and one that does not. The plainest come first,
-/// so that of several shortest histories a plain one is found.
+/// The steps on n disks of b blocks: every block, disk and stage that exists, and one that does not. The plainest come
+/// first, so that of several shortest histories a plain one is found.
 fn steps(n: u8, b: u8) -> Vec<Step> {
     let mut steps = vec![Step::Cut];
     for disk in 0..=n {
@@ -215,5 +222,8 @@ fn steps(n: u8, b: u8) -> Vec<Step> {
         steps.push(Step::Join { disk });
     }
     steps.extend([Step::Quiet, Step::Restart]);
+    let none = [(1, n.into()), (4, 0)];
+    let diagnose = |(stage, disk)| Step::Diagnose { stage, disk };
+    steps.extend(questions(n).chain(none).map(diagnose));
     steps
 }

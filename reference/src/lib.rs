@@ -1,4 +1,5 @@
-//! An independent implementation of document 01, *The cohort-set disk cabinet*, and of document 02's request 2.1.
+//! An independent implementation of document 01, *The cohort-set disk cabinet*, and of document 02's requests 2.1
+//! and 2.2.
 //!
 //! It is written from the papers alone and shares no code, table or layout with the proved product. It is meant to be
 //! read beside the paper: each rule stands once, at a place named in the paper's terms, and the comments give the
@@ -13,6 +14,7 @@ pub mod call;
 pub mod claims;
 pub mod corpus;
 pub mod definitions;
+pub mod diagnosis;
 pub mod driver;
 pub mod explorer;
 pub mod files;

@@ -23,6 +23,10 @@ pub enum Mistake {
     CutRunsOn,
     /// A cut write is said to count one store before that on the lowest member of L.
     CutWriteCountsEarly,
+    /// A diagnosis of stage 2 says 'a candidate' though no member has the set as its T.
+    DiagnosisWithoutProposal,
+    /// A diagnosis tells the lowest member that disagrees before one that is out of reach.
+    DisagreementBeforeReach,
     /// A move's first store on a disk commits it too, before the next one has the tentative set.
     EarlyCommit,
     /// No stage 2: committed sets decide whenever some tentative set is missing.
@@ -39,8 +43,16 @@ pub enum Mistake {
     JoinReachBeforeMember,
     /// One member suffices for a stage, and the largest of several sets is taken.
     LargerSet,
+    /// A diagnosis tells the lowest member as out of reach, though it may be in reach.
+    LowestMemberTold,
     /// Only a set that has most of the disks in reach is taken.
     Majority,
+    /// A diagnosis gives a set, disk 0 alone, where a restart gives 14.
+    OtherSetOfSeveral,
+    /// A diagnosis gives the set of a restart though the asked disk is in it.
+    OtherSetWithDisk,
+    /// In stage 3 a disk's own set is its C though it has a T.
+    OwnSetByStage,
     /// A read yields block 0.
     ReadOfAnotherBlock,
     /// A restart clears a region's dirty bits and copies nothing.
@@ -63,7 +75,7 @@ pub enum Mistake {
 
 impl Mistake {
     /// Every mistake with its name.
-    pub const ALL: [(Mistake, &'static str); 27] = [
+    pub const ALL: [(Mistake, &'static str); 33] = [
         (Mistake::AssembleOneSlot, "assemble_one_slot"),
         (Mistake::BlocksBeforeBits, "blocks_before_bits"),
         (Mistake::BookCountsAtLastDisk, "book_counts_at_last_disk"),
@@ -73,6 +85,8 @@ impl Mistake {
         (Mistake::CutMakesWholeList, "cut_makes_whole_list"),
         (Mistake::CutRunsOn, "cut_runs_on"),
         (Mistake::CutWriteCountsEarly, "cut_write_counts_early"),
+        (Mistake::DiagnosisWithoutProposal, "diagnosis_without_proposal"),
+        (Mistake::DisagreementBeforeReach, "disagreement_before_reach"),
         (Mistake::EarlyCommit, "early_commit"),
         (Mistake::FallbackToCommitted, "fallback_to_committed"),
         (Mistake::FinderMissesCommitted, "finder_misses_committed"),
@@ -81,7 +95,11 @@ impl Mistake {
         (Mistake::JoinNoneLiveBeforeMember, "join_none_live_before_member"),
         (Mistake::JoinReachBeforeMember, "join_reach_before_member"),
         (Mistake::LargerSet, "larger_set"),
+        (Mistake::LowestMemberTold, "lowest_member_told"),
         (Mistake::Majority, "majority"),
+        (Mistake::OtherSetOfSeveral, "other_set_of_several"),
+        (Mistake::OtherSetWithDisk, "other_set_with_disk"),
+        (Mistake::OwnSetByStage, "own_set_by_stage"),
         (Mistake::ReadOfAnotherBlock, "read_of_another_block"),
         (Mistake::RestartCopiesNothing, "restart_copies_nothing"),
         (Mistake::RestartNamesAll, "restart_names_all"),

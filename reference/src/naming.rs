@@ -17,7 +17,7 @@ pub enum Found {
 
 /// The three stages.
 #[derive(Clone, Copy, Debug, PartialEq, Eq)]
-enum Stage {
+pub enum Stage {
     /// "Every member has T = X."
     First,
     /// "Every member has T = X or C = X, and some member has T = X."
@@ -28,6 +28,30 @@ enum Stage {
 
 /// The stages in their order.
 const STAGES: [Stage; 3] = [Stage::First, Stage::Second, Stage::Third];
+
+impl Stage {
+    /// The stage of this number, from 1.
+    pub fn numbered(number: u32) -> Option<Stage> {
+        let place = number.checked_sub(1)?;
+        STAGES.get(place as usize).copied()
+    }
+
+    /// Whether a member's label is as the stage asks of every member of X.
+    pub fn is_backed_by(self, label: &Label, x: DiskSet) -> bool {
+        let (proposes, has_committed) = (label.tentative == x, label.committed == x);
+        match self {
+            Stage::First => proposes,
+            Stage::Second => proposes || has_committed,
+            Stage::Third => has_committed,
+        }
+    }
+
+    /// Whether "some member has T = X", if the stage asks it.
+    pub fn is_proposed(self, rules: Rules, labels: &[Label; 8], x: DiskSet) -> bool {
+        let asks = self == Stage::Second && !rules.makes(Mistake::StageTwoWithoutProposal);
+        !asks || x.members().any(|d| labels[d as usize].tentative == x)
+    }
+}
 
 /// The set that a restart names: a search over all sets X inside R in each stage. "The first stage with a candidate
 /// decides."
@@ -89,19 +113,12 @@ fn largest(sets: &[DiskSet]) -> Found {
 
 /// Whether X is a candidate in this stage: it is not empty, and its members' labels are as the stage asks.
 fn is_candidate(rules: Rules, stage: Stage, labels: &[Label; 8], reach: DiskSet, x: DiskSet) -> bool {
-    let proposes = |d: u8| labels[d as usize].tentative == x;
-    let has_committed = |d: u8| labels[d as usize].committed == x;
-    let backs = |d: u8| match stage {
-        Stage::First => proposes(d),
-        Stage::Second => proposes(d) || has_committed(d),
-        Stage::Third => has_committed(d),
-    };
+    let backs = |d: u8| stage.is_backed_by(&labels[d as usize], x);
     let backed = if rules.makes(Mistake::LargerSet) {
         x.members().any(backs)
     } else {
         !x.is_empty() && x.members().all(backs)
     };
-    let asks_proposal = stage == Stage::Second && !rules.makes(Mistake::StageTwoWithoutProposal);
     let outvoted = rules.makes(Mistake::Majority) && 2 * x.size() <= reach.size();
-    backed && (!asks_proposal || x.members().any(proposes)) && !outvoted
+    backed && stage.is_proposed(rules, labels, x) && !outvoted
 }

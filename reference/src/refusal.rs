@@ -1,4 +1,4 @@
-//! The numbers of 'What each call refuses'.
+//! The numbers of 'What each call refuses', and those that the requests add.
 
 /// A call that is done.
 pub const DONE: u8 = 0;
@@ -46,6 +46,8 @@ pub const LABEL_SET: u8 = 20;
 pub const OUTPUT_SHORT: u8 = 21;
 /// A dirty bit names no region.
 pub const NO_SUCH_REGION: u8 = 22;
+/// The stage is not 1, 2 or 3.
+pub const NO_SUCH_STAGE: u8 = 23;
 
 /// "Each refusal falls in the order of its paragraph, on its condition only": the first one whose condition holds.
 pub fn first(refusals: &[(u8, bool)]) -> Result<(), u8> {

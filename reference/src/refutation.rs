@@ -1,9 +1,11 @@
 //! For each mistake the claim that refuses it, and the history or the state on which that claim fails.
 
 use crate::claims::Claim;
+use crate::diagnosis::{diagnose, questions};
 use crate::explorer::{explore, SIZES};
 use crate::mistakes::{Mistake, Rules};
 use crate::small_states;
+use crate::sound_states;
 use crate::state::{Power, State};
 
 /// Why a mistake is one.
@@ -14,6 +16,10 @@ pub struct Refutation {
     pub lines: Vec<String>,
 }
 
+/// The mistakes that show only in states that no history reaches: in every reached one the members of G have no T, and
+/// no restart gives 14.
+pub const IN_NO_HISTORY: [Mistake; 2] = [Mistake::OtherSetOfSeveral, Mistake::SoundIgnoresTentative];
+
 /// The claim that refuses a mistake.
 pub fn claim_against(mistake: Mistake) -> Claim {
     match mistake {
@@ -22,8 +28,11 @@ pub fn claim_against(mistake: Mistake) -> Claim {
         Mistake::EarlyCommit | Mistake::FallbackToCommitted | Mistake::Majority | Mistake::RestartRefusesAlways => {
             Claim::RestartFinds
         }
+        Mistake::DiagnosisWithoutProposal => Claim::CandidateTold,
+        Mistake::DisagreementBeforeReach | Mistake::LowestMemberTold | Mistake::OwnSetByStage => Claim::EarliestReason,
         Mistake::FinderMissesCommitted => Claim::FinderAgrees,
         Mistake::JoinNoneLiveBeforeMember | Mistake::JoinReachBeforeMember => Claim::MembersTold,
+        Mistake::OtherSetOfSeveral | Mistake::OtherSetWithDisk => Claim::OtherSet,
         Mistake::ReadOfAnotherBlock => Claim::ReadsBook,
         Mistake::SoundIgnoresTentative => Claim::TestAgrees,
         Mistake::StageTwoWithoutProposal => Claim::NamedAsDefined,
@@ -48,9 +57,10 @@ pub fn claim_against(mistake: Mistake) -> Claim {
 /// difference between the two.
 pub fn refute(mistake: Mistake) -> Option<Refutation> {
     let (rules, claim) = (Rules::with(mistake), claim_against(mistake));
-    match claim {
-        Claim::TestAgrees => refuting_state(rules, claim),
-        _ => refuting_history(rules, rules, claim),
+    if IN_NO_HISTORY.contains(&mistake) {
+        refuting_state(rules, claim)
+    } else {
+        refuting_history(rules, rules, claim)
     }
 }
 
@@ -64,10 +74,15 @@ pub fn refuting_history(rules: Rules, book_rules: Rules, claim: Claim) -> Option
     })
 }
 
-/// A small state, reachable or not, in which the claim fails.
+/// A state of one or two disks, reachable or not, in which the claim fails.
 fn refuting_state(rules: Rules, claim: Claim) -> Option<Refutation> {
-    let fails = |state: &State| !claim.holds_in(rules, state);
-    let state = small_states::all().find(fails)?;
+    let fails_of = |state: &State, (stage, disk)| {
+        let told = diagnose(rules, state, stage, disk);
+        !claim.holds_of_diagnosis(rules, state, (stage, disk), told)
+    };
+    let fails_asked = |state: &State| questions(state.disks).any(|asked| fails_of(state, asked));
+    let fails = |state: &State| !claim.holds_in(rules, state) || fails_asked(state);
+    let state = small_states::all().chain(sound_states::all(2)).find(fails)?;
     let power = match state.power {
         Power::Stopped => "stopped".to_string(),
         Power::Running(current) => format!("running with G {}", current.0),

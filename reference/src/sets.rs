@@ -58,8 +58,8 @@ impl DiskSet {
         self.members().next()
     }
 
-    /// Every set that lies inside this one, the empty set too.
+    /// Every set that lies inside this one, the empty set too. As a byte it is not above this one.
     pub fn sets_inside(self) -> impl Iterator<Item = DiskSet> {
-        (0..=255).map(DiskSet).filter(move |x| x.inside(self))
+        (0..=self.0).map(DiskSet).filter(move |x| x.inside(self))
     }
 }

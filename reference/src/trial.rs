@@ -4,6 +4,7 @@ use crate::book::Book;
 use crate::cabinet::{Answer, Cabinet};
 use crate::call::Call;
 use crate::claims::{Claim, Event};
+use crate::diagnosis::{diagnose, Diagnosis};
 use crate::mistakes::Rules;
 
 /// A cabinet and the book, both begun by one fresh call and fed the same calls.
@@ -20,6 +21,8 @@ pub struct Trial {
 pub struct Outcome {
     /// The answer of the cabinet that is tried.
     pub answer: Answer,
+    /// What that cabinet told, if the call is a diagnosis.
+    pub told: Option<Diagnosis>,
     /// The answer of the book's own cabinet.
     pub book_answer: Answer,
     /// The first claim that failed.
@@ -40,11 +43,16 @@ impl Trial {
     pub fn take(&mut self, call: &Call, output: &mut [u8], claims: &[Claim]) -> Outcome {
         let before = self.cabinet.state;
         let answer = self.cabinet.take(call, output);
+        let told = match *call {
+            Call::Diagnose { stage, disk } => Some(diagnose(self.cabinet.rules, &before, stage, disk)),
+            _ => None,
+        };
         let taken = self.book.take(call);
         let event = Event {
             before: &before,
             call,
             answer,
+            told,
             output,
             after: &self.cabinet,
             book: &self.book,
@@ -53,6 +61,7 @@ impl Trial {
         let fails = |claim: &&Claim| !claim.holds_of(&event);
         Outcome {
             answer,
+            told,
             book_answer: taken.answer,
             failed: claims.iter().find(fails).copied(),
         }

@@ -24,24 +24,24 @@ fn all_claims_hold(n: u16, b: u16, states: usize, calls: usize) {
 
 #[test]
 fn all_claims_hold_with_one_disk() {
-    all_claims_hold(1, 1, 8, 130);
-    all_claims_hold(1, 2, 16, 320);
+    all_claims_hold(1, 1, 8, 170);
+    all_claims_hold(1, 2, 16, 400);
 }
 
 #[test]
 fn all_claims_hold_with_two_disks() {
-    all_claims_hold(2, 1, 404, 7_995);
-    all_claims_hold(2, 2, 1_328, 31_400);
+    all_claims_hold(2, 1, 404, 11_227);
+    all_claims_hold(2, 2, 1_328, 42_024);
 }
 
 #[test]
 fn all_claims_hold_with_three_disks_of_one_block() {
-    all_claims_hold(3, 1, 135_048, 3_123_212);
+    all_claims_hold(3, 1, 135_048, 4_608_740);
 }
 
 #[test]
 fn all_claims_hold_with_three_disks_of_two_blocks() {
-    all_claims_hold(3, 2, 830_768, 22_540_880);
+    all_claims_hold(3, 2, 830_768, 31_679_328);
 }
 
 #[test]

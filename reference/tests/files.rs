@@ -59,12 +59,18 @@ fn the_last_line_of_the_corpus_lacks_its_line_feed() {
 }
 
 /// The mistakes that change no answer of the cabinet program on any input: they are about other things.
-const UNSEEN_BY_THE_PROGRAM: [Mistake; 7] = [
+const UNSEEN_BY_THE_PROGRAM: [Mistake; 13] = [
     Mistake::AssembleOneSlot,
     Mistake::BookCountsAtLastDisk,
     Mistake::BookCountsEveryWrite,
     Mistake::CutWriteCountsEarly,
+    Mistake::DiagnosisWithoutProposal,
+    Mistake::DisagreementBeforeReach,
     Mistake::FinderMissesCommitted,
+    Mistake::LowestMemberTold,
+    Mistake::OtherSetOfSeveral,
+    Mistake::OtherSetWithDisk,
+    Mistake::OwnSetByStage,
     Mistake::SoundIgnoresTentative,
     Mistake::WriteBoundThree,
 ];

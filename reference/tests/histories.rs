@@ -62,7 +62,7 @@ fn random_call(random: &mut Random, state: &State) -> Call {
         (0..=34, false) => 1,
         (35..=49, _) => 6,
         (50..=59, _) => 2,
-        (other, _) => other % 8,
+        (other, _) => other % 9,
     };
     let supply = supply(random, state);
     match kind {
@@ -86,7 +86,11 @@ fn random_call(random: &mut Random, state: &State) -> Call {
         6 => Call::Return {
             disk: number(random, state.disks),
         },
-        _ => Call::Cut,
+        7 => Call::Cut,
+        _ => Call::Diagnose {
+            stage: random.below(5) as u32,
+            disk: number(random, state.disks).into(),
+        },
     }
 }
 
@@ -99,8 +103,8 @@ struct Tally {
     finished_with_all: usize,
     /// Writes, joins and restarts that were cut.
     cut: [usize; 3],
-    /// Writes and joins that were done.
-    done: [usize; 2],
+    /// Writes, joins and diagnoses that were done.
+    done: [usize; 3],
 }
 
 impl Tally {
@@ -116,6 +120,7 @@ impl Tally {
             (Call::Restart { .. }, 15) => self.cut[2] += 1,
             (Call::Write { .. }, 0) => self.done[0] += 1,
             (Call::Join { .. }, 0) => self.done[1] += 1,
+            (Call::Diagnose { .. }, 0) => self.done[2] += 1,
             _ => {}
         }
     }
@@ -131,12 +136,13 @@ impl Tally {
 fn history(random: &mut Random, n: u16, b: u16, tally: &mut Tally) {
     let mut trial = Trial::fresh(Rules::PAPER, Rules::PAPER, n, b).expect("n and b are in range");
     let mut lines = vec![format!("f {n} {b}")];
+    let claims = [&Claim::OF_CALLS[..], &Claim::OF_DIAGNOSES].concat();
     for _ in 0..CALLS {
         let call = random_call(random, &trial.cabinet.state);
         lines.push(call.line());
         let length = if random.percent(95) { 64 } else { random.below(129) };
         let mut output = vec![170; length];
-        let outcome = trial.take(&call, &mut output, &Claim::OF_CALLS);
+        let outcome = trial.take(&call, &mut output, &claims);
         tally.count(&call, outcome.answer.result, &trial.cabinet.state);
         let failed = outcome.failed.or_else(|| trial.failing_in_state(&Claim::OF_STATES));
         if let Some(claim) = failed {

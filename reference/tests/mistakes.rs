@@ -3,7 +3,7 @@
 use reference::label::Label;
 use reference::mistakes::{Mistake, Rules};
 use reference::naming::{named, Found};
-use reference::refutation::{claim_against, refute, refuting_history};
+use reference::refutation::{claim_against, refute, refuting_history, IN_NO_HISTORY};
 use reference::sets::DiskSet;
 use std::path::Path;
 
@@ -48,16 +48,12 @@ fn each_mistake_is_refused_by_its_claim() {
 }
 
 /// A cabinet alone that makes the mistake is refused too, when the book beside it is the paper's. Not so for the
-/// mistakes that are the book's own, and for the test of soundness, which is about any state.
+/// mistakes that are the book's own, and for those that no history shows.
 #[test]
 fn each_mistake_of_a_cabinet_is_refused_by_the_papers_book() {
-    let others = [
-        Mistake::BookCountsAtLastDisk,
-        Mistake::BookCountsEveryWrite,
-        Mistake::SoundIgnoresTentative,
-    ];
+    let of_book = [Mistake::BookCountsAtLastDisk, Mistake::BookCountsEveryWrite];
     for (mistake, name) in Mistake::ALL {
-        if others.contains(&mistake) {
+        if of_book.contains(&mistake) || IN_NO_HISTORY.contains(&mistake) {
             continue;
         }
         let claim = claim_against(mistake);

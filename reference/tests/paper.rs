@@ -1,6 +1,7 @@
 //! The paper's own examples: H1 to H14 and the session.
 
 use reference::cabinet::{Answer, Cabinet};
+use reference::diagnosis::{diagnose, questions, Diagnosis, Reason};
 use reference::driver;
 use reference::label::{self, Label};
 use reference::mistakes::Rules;
@@ -64,6 +65,44 @@ fn restarts_answer_what_the_paper_says() {
         };
         assert_eq!(answer, Answer { result, stores }, "{name}");
         assert_eq!(cabinet.state.power, power, "{name}");
+    }
+}
+
+/// An example's reasons, those of disk 0 first and of each disk stage 1 first; and the set of each disk.
+type Told = (&'static str, [[Reason; 3]; 3], [u8; 3]);
+
+/// Request 2.2 on three of them, by hand. H2: disk 0, which is pulled, is in every own set. H6: disk 0 has the T 3,
+/// which disk 1 has neither as T nor as C, and which disk 0 itself does not have as C; the other own sets are 7, and
+/// disk 2 is pulled. H8: all own sets are the T 7, in stage 3 too, and the restart's set 3 lacks only disk 2.
+const TOLD: [Told; 3] = [
+    ("H2", [[Reason::OutOfReach(0); 3]; 3], [0, 0, 0]),
+    (
+        "H6",
+        [
+            [Reason::Disagrees(1), Reason::Disagrees(1), Reason::Disagrees(0)],
+            [Reason::OutOfReach(2); 3],
+            [Reason::OutOfReach(2); 3],
+        ],
+        [0, 0, 0],
+    ),
+    ("H8", [[Reason::OutOfReach(2); 3]; 3], [0, 0, 3]),
+];
+
+#[test]
+fn diagnoses_tell_what_was_found_by_hand() {
+    for (name, reasons, sets) in TOLD {
+        let example = RESTARTS.iter().find(|example| example.0 == name);
+        let (_, committed, tentative, reach, _) = *example.expect("it is one of the restarts");
+        let state = stopped(committed, tentative, reach);
+        for (stage, disk) in questions(3) {
+            let expected = Diagnosis {
+                result: 0,
+                reason: reasons[disk as usize][stage as usize - 1],
+                set: DiskSet(sets[disk as usize]),
+            };
+            let told = diagnose(Rules::PAPER, &state, stage, disk);
+            assert_eq!(told, expected, "{name}, stage {stage}, disk {disk}");
+        }
     }
 }
 

@@ -2,9 +2,10 @@
 
 use reference::cabinet::{self, Cabinet};
 use reference::call::Call;
+use reference::diagnosis;
 use reference::label;
 use reference::mistakes::Rules;
-use reference::plain::{self, Answer, Label, Reading, State};
+use reference::plain::{self, Answer, Diagnosis, Label, Reading, State};
 use reference::random::Random;
 use reference::sets::DiskSet;
 use reference::slots;
@@ -12,8 +13,10 @@ use std::collections::BTreeSet;
 
 /// The calls that are compared.
 const CALLS: usize = 400_000;
+/// The states in which every stage and disk is asked for.
+const ASKED: usize = 20_000;
 /// The numbers of the calls, and the results that each can give.
-const RESULTS: [&[u8]; 13] = [
+const RESULTS: [&[u8]; 14] = [
     &[0, 1, 2, 3, 6, 9, 12],
     &[0, 1, 2, 3, 6, 9, 12, 15],
     &[0, 1, 2, 6, 8, 10, 11, 12, 15],
@@ -22,17 +25,18 @@ const RESULTS: [&[u8]; 13] = [
     &[0, 1, 8],
     &[0, 1, 8],
     &[0, 1],
+    &[0, 1, 7, 8, 23],
     &[0, 2, 4, 5],
     &[0, 1, 2],
     &[0, 2, 4, 5, 8, 17, 18, 19, 20, 22],
     &[0, 16, 17, 18, 19, 20],
     &[0, 4, 8, 20, 21],
 ];
-const FRESH: usize = 8;
-const SAVE: usize = 9;
-const ASSEMBLE: usize = 10;
-const READ_LABEL: usize = 11;
-const WRITE_LABEL: usize = 12;
+const FRESH: usize = 9;
+const SAVE: usize = 10;
+const ASSEMBLE: usize = 11;
+const READ_LABEL: usize = 12;
+const WRITE_LABEL: usize = 13;
 
 #[test]
 fn plain_calls_give_what_the_reference_gives() {
@@ -89,7 +93,11 @@ fn any_call(random: &mut Random, kind: usize) -> Call {
         4 => Call::Restart { supply },
         5 => Call::Lose { disk: number },
         6 => Call::Return { disk: number },
-        _ => Call::Cut,
+        7 => Call::Cut,
+        _ => Call::Diagnose {
+            stage: random.below(5) as u32,
+            disk: number.into(),
+        },
     }
 }
 
@@ -108,7 +116,40 @@ fn make(random: &mut Random, state: State, area: &mut [u8], call: &Call, output:
         Call::Lose { disk } => plain::lose(state, wide(random, disk)),
         Call::Return { disk } => plain::give_back(state, wide(random, disk)),
         Call::Cut => plain::cut(state),
+        Call::Diagnose { stage, disk } => Answer {
+            result: plain::diagnose(&state, stage as usize, wide(random, disk as u16)).result,
+            stores: 0,
+            state,
+        },
     }
+}
+
+/// Every stage and disk in random states, and numbers that are none. Every reason occurs with a set and without one; a
+/// refused diagnosis has neither.
+#[test]
+fn plain_diagnoses_tell_what_the_reference_tells() {
+    let mut random = Random::new(2);
+    let mut seen = BTreeSet::new();
+    for _ in 0..ASKED {
+        let state = any_state(&mut random);
+        seen.extend(diagnoses(state));
+    }
+    let refused = [1, 7, 8, 23].map(|result| (result, 0, false));
+    let reasons = (1..=5).flat_map(|reason| [(0, reason, false), (0, reason, true)]);
+    assert_eq!(seen, reasons.chain(refused).collect());
+}
+
+/// The diagnoses in a state: of each the result, the reason, and whether it has a set.
+fn diagnoses(state: State) -> Vec<(u8, u8, bool)> {
+    let stages = (0..=4).chain([255, 256, 257, 65_536]);
+    let questions = stages.flat_map(|stage| (0..=8).chain([255, 256, 65_536]).map(move |disk| (stage, disk)));
+    let compare = |(stage, disk): (u32, u32)| {
+        let given = plain::diagnose(&state, stage as usize, disk as usize);
+        let expected = diagnosis::diagnose(Rules::PAPER, &state.into(), stage, disk);
+        assert_eq!(given, Diagnosis::from(expected), "{state:?} {stage} {disk}");
+        (given.result, given.reason, given.set != 0)
+    };
+    questions.map(compare).collect()
 }
 
 fn fresh(random: &mut Random) -> u8 {

@@ -6,11 +6,13 @@
 //! borrowed. What goes in and out by value is laid out as C does and holds numbers only, so any bytes are good ones.
 
 use crate::answer::Answer;
+use crate::diagnosis::{Diagnosis, Told};
 use crate::label::{Label, Reading, Written};
 use crate::state::State;
 
 const _: () = assert!(size_of::<State>() == 28 && size_of::<Answer>() == 32);
 const _: () = assert!(size_of::<Label>() == 3 && size_of::<Reading>() == 40 && size_of::<Written>() == 16);
+const _: () = assert!(size_of::<Told>() == 16);
 
 // SAFETY: these are the library's declarations, a slice being a pointer and then a length; see above.
 unsafe extern "C" {
@@ -38,6 +40,7 @@ unsafe extern "C" {
     safe fn cabinet_detach(state: State, disk: usize) -> Answer;
     safe fn cabinet_attach(state: State, disk: usize) -> Answer;
     safe fn cabinet_power_off(state: State) -> Answer;
+    safe fn cabinet_diagnose(state: State, stage: usize, disk: usize) -> Told;
     fn cabinet_save(state: State, slots: *mut u8, slots_length: usize) -> Answer;
     fn cabinet_assemble(disks: usize, blocks: usize, online: u8, slots: *const u8, slots_length: usize) -> Answer;
     fn cabinet_read_label(bytes: *const u8, bytes_length: usize) -> Reading;
@@ -135,6 +138,25 @@ impl State {
     #[inline]
     pub fn power_off(self) -> Answer {
         cabinet_power_off(self)
+    }
+
+    /// Why a disk of a stopped cabinet is not current: what keeps its own set from being a candidate of the stage, 1, 2
+    /// or 3, and the set that a restart would find without the disk. It changes nothing.
+    ///
+    /// ```
+    /// # use cabinet::{Label, Reason, Refusal, State};
+    /// // Disk 0 is out of reach. It is a member of the set that disk 1 was last in.
+    /// let mut state = State { disks: 2, blocks: 1, online: 2, ..State::default() };
+    /// state.labels[..2].fill(Label { committed: 3, ..Label::default() });
+    /// let diagnosis = state.diagnose(3, 1);
+    /// assert_eq!((diagnosis.outcome(), diagnosis.reason), (Ok(()), Reason::OutOfReach(0)));
+    /// assert_eq!(diagnosis.to_string(), "disk 0 of {0, 1} is out of reach");
+    /// ```
+    ///
+    /// Refusals: 1 not sound, 7 running, 8 no such disk, 23 no such stage. Refused, it gives no reason and 0 for the sets.
+    #[inline]
+    pub fn diagnose(self, stage: usize, disk: usize) -> Diagnosis {
+        Diagnosis::new(self.labels.get(disk), cabinet_diagnose(self, stage, disk))
     }
 
     /// Writes the labels into `slots`, 5 bytes a disk. The number of blocks and the disks in reach are not in them.

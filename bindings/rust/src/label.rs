@@ -14,6 +14,16 @@ pub struct Label {
     pub dirty: u8,
 }
 
+impl Label {
+    /// The disk's own set: "its T if there is one, else its C".
+    pub fn own_set(&self) -> u8 {
+        match self.tentative {
+            0 => self.committed,
+            tentative => tentative,
+        }
+    }
+}
+
 /// What [`Label::read`] yields. Refused, all numbers are 0.
 #[must_use = "a label that is refused reads as zeros"]
 #[repr(C)]

@@ -1,4 +1,4 @@
-//! The cohort-set disk cabinet for Rust: the calls of the project's document 01, by a library whose every answer, state
+//! The cohort-set disk cabinet for Rust: the calls of the project's documents 01 and 02, by a library whose every answer, state
 //! and buffer is proved to be what the document's definitions say.
 //!
 //! A cabinet keeps the same blocks on up to 8 disks, and a restart finds the disks that are current, whenever the power
@@ -34,11 +34,13 @@
 mod answer;
 #[allow(unsafe_code)]
 mod calls;
+mod diagnosis;
 mod label;
 mod refusal;
 mod state;
 
 pub use answer::Answer;
+pub use diagnosis::{Diagnosis, Reason};
 pub use label::{Label, Reading, Written};
 pub use refusal::Refusal;
 pub use state::{area_length, State, BLOCK_SIZE, MOST_BLOCKS, MOST_DISKS, SLOT_SIZE};

@@ -64,6 +64,7 @@ refusals! {
     20 LabelSet "a set of the label names a disk that is not there, or omits its own"
     21 NoRoom "the output is shorter than the label"
     22 NoSuchRegion "a dirty bit of the label names no region"
+    23 NoSuchStage "the stage is not 1, 2 or 3"
 }
 
 /// The outcome of a result's number, of which 0 is "a done call".
@@ -98,7 +99,7 @@ mod tests {
     fn the_cases_are_the_papers() {
         let is_known = |&number: &u8| !matches!(Refusal::of(number), Refusal::Unknown(_));
         let known: Vec<u8> = (0..=255).filter(is_known).collect();
-        let papers: Vec<u8> = (1..=22).collect();
+        let papers: Vec<u8> = (1..=23).collect();
         assert_eq!(known, papers);
     }
 

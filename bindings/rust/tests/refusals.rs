@@ -1,6 +1,6 @@
 //! Each call's refusals, each alone: the answer is its number, and everything stays as it was.
 
-use cabinet::{Answer, Label, Refusal, State};
+use cabinet::{Answer, Label, Reason, Refusal, State};
 use Refusal::*;
 
 /// The length of the area of the cabinets below: 2 disks of 9 blocks.
@@ -166,6 +166,23 @@ fn detach_attach_and_power_off_refuse() {
     keeps_all(Unsound, |state, _, _| state.attach(2), unsound(), (0, 0));
     keeps_all(NoSuchDisk, |state, _, _| state.attach(usize::MAX), running(), (0, 0));
     keeps_all(Unsound, |state, _, _| state.power_off(), unsound(), (0, 0));
+}
+
+/// Each number alone: 65,536 and 256 are no stages and no disks, whatever their low bytes are.
+#[test]
+fn diagnose_refuses() {
+    let refused = |state: State, stage, disk| {
+        let diagnosis = state.diagnose(stage, disk);
+        assert_eq!((diagnosis.reason, diagnosis.own, diagnosis.set), (Reason::None, 0, 0));
+        diagnosis.outcome()
+    };
+    assert_eq!(refused(unsound(), 0, 2), Err(Unsound));
+    assert_eq!(refused(running(), 0, 2), Err(Running));
+    assert_eq!(refused(stopped(), 0, 2), Err(NoSuchDisk));
+    assert_eq!(refused(stopped(), 1, 256), Err(NoSuchDisk));
+    for stage in [0, 4, 255, 256, 257, 65_536, 65_537, usize::MAX] {
+        assert_eq!(refused(stopped(), stage, 1), Err(NoSuchStage));
+    }
 }
 
 #[test]

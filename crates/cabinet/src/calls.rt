@@ -1,15 +1,18 @@
-// A call of document 01's list as a value.
+// A call of the list as a value.
 ghost use mathlib.Core.Path.{_≡_};
 ghost use Rattle.protocol.specs.Outcomes.{yields};
 ghost use Rattle.protocol.specs.History.{perform};
+use diagnosis::diagnose;
 use membership::attach;
 use membership::detach;
 use membership::power_off;
 use protocol::Answer;
 use protocol::Call;
 use protocol::State;
+use state::without_stores;
 
-// Carries out the call. A buffer that it does not take, it leaves.
+// Carries out the call. A buffer that it does not take, it leaves. Of a diagnosis it gives the number: what is said of
+// the disk, `diagnose` says.
 pub fn apply(call: Call, s: State, area: &mut [u8], bytes: &[u8], output: &mut [u8]) -> Answer
     ensures { λ r. ⌜ yields r (now (area .exit)) (now (output .exit))
         ≡ perform call (now (bytes .entry)) (now (output .entry)) (record { state = s; area = now (area .entry) }) ⌝ }
@@ -23,5 +26,6 @@ pub fn apply(call: Call, s: State, area: &mut [u8], bytes: &[u8], output: &mut [
         Call::Detach { disk } => detach(s, disk),
         Call::Attach { disk } => attach(s, disk),
         Call::PowerOff => power_off(s),
+        Call::Diagnose { stage, disk } => without_stores(s, diagnose(s, stage, disk).refusal),
     }
 }

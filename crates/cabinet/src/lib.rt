@@ -1,10 +1,11 @@
 // Document 01's calls, each for any state, buffers and numbers: fresh from the crate `formatting`, lose, return and cut
 // from `membership`, those of a running cabinet from `storage` and `cleaning`, restart from `recovery`, the saved form
-// from `slots`. Beside them `apply`, which takes a call as a value.
+// from `slots`; and document 02's: diagnose from `diagnosis`. Beside them `apply`, which takes a call as a value.
 mod calls;
 
 pub use calls::apply;
 pub use cleaning::clean;
+pub use diagnosis::diagnose;
 pub use formatting::format;
 pub use membership::attach;
 pub use membership::detach;

@@ -2,55 +2,35 @@
 -- sets. Assumes nothing.
 use mathlib.Core.Path.{_≡_, refl, sym, ap, _∙_}
 use mathlib.Core.Logic.{_≢_, _⊎_, inl, inr}
-use mathlib.Core.Bool.{Bool, true, false, not, cond, _&&_}
+use mathlib.Core.Bool.{Bool, true, false, not, cond, _&&_, and-false}
 use mathlib.Core.List.{List, [], _∷_}
 use Prim.Native.Nat.{ℕ, _≤_, _<_}
 use native.Mathlib.Omega.{arith}
 use lib.Dec.{ltb}
 use lib.ListN.{length}
-use borrow.Author.Tests.{eqb-true, eq-eqb, ltb-true, lt-ltb}
-use Rattle.sets.specs.Sets.{has, intersection, difference, singleton, below, size, lowest}
-use Rattle.sets.proofs.Tests.{clash, same-test, and-parts, same-or-not}
-use Rattle.sets.proofs.Membership.{has-empty}
-use Rattle.sets.proofs.Operations.{has-intersection, has-difference, has-singleton}
+use borrow.Author.Tests.{ltb-true, lt-ltb}
+use Rattle.sets.specs.Sets.{has, intersection, difference, below, size, lowest}
+use Rattle.sets.proofs.Tests.{Test, passes, fails, test, clash, and-parts, same-or-not}
+use Rattle.sets.proofs.Operations.{has-intersection, has-difference}
 use Rattle.sets.proofs.Bounds.{below-members, below-intersection}
 use Rattle.sets.proofs.LowestMember.{lowest-has}
 use Rattle.label.specs.declared.Label.{Label}
 use Rattle.protocol.specs.Geometry.{mostDisks}
-use Rattle.protocol.specs.Loops.{forEach, someBelow, some}
+use Rattle.protocol.specs.Loops.{forEach, some}
 use Rattle.protocol.specs.States.{labelAt, isDirty}
 use Rattle.protocol.specs.Stores.{Store}
-use Rattle.protocol.proofs.Loops.{same-iterations, for-length, some-at, some-of}
-use Rattle.protocol.proofs.Loops.{some-same, some-is, some-known, has-union-below}
+use Rattle.protocol.proofs.Loops.{same-iterations, for-length, some-same, some-is, some-known}
+use Rattle.protocol.proofs.Loops.{has-union-below, has-if, has-disks-where}
 use Rattle.dirty.specs.DirtyBits.{dirtyDisks, dirtyRegions}
-
--- a set that stands under a condition
-has-if : (t : Bool) (s d : ℕ) → has (cond t s 0) d ≡ (t && has s d)
-has-if true s d = refl
-has-if false s d = has-empty d
 
 module _ (labels : List Label) (r n : ℕ) (few : n ≤ mostDisks) where
   has-dirty : (d : ℕ) → has (dirtyDisks n labels r) d ≡ (ltb d n && isDirty labels d r)
   unfolding dirtyDisks
-  has-dirty d =
-      has-union-below _ d mostDisks
-      ∙ same-test (someBelow mostDisks here) (ltb d n && isDirty labels d r)
-      (λ e. let (i, _, h) = some-at mostDisks here e in found i h) (λ e. some-of mostDisks here d (reached e) (own e))
+  has-dirty d = has-disks-where mostDisks _ d ∙ go (test (ltb d n))
     where
-      here : ℕ → Bool
-      here i = has (cond (ltb i n && isDirty labels i r) (singleton i) 0) d
-
-      found : (i : ℕ) → here i ≡ true → (ltb d n && isDirty labels d r) ≡ true
-      found i h =
-          let dirty = ltb i n && isDirty labels i r in
-          let (stands, same) = and-parts dirty (has (singleton i) d) (sym (has-if dirty (singleton i) d) ∙ h) in
-          rw (eqb-true d i (sym (has-singleton i d) ∙ same)) stands
-
-      reached : (ltb d n && isDirty labels d r) ≡ true → d < mostDisks
-      reached e = let l = ltb-true d n (and-parts (ltb d n) (isDirty labels d r) e .0) in omega arith
-
-      own : (ltb d n && isDirty labels d r) ≡ true → here d ≡ true
-      own e = has-if (ltb d n && isDirty labels d r) (singleton d) d ∙ rw (e, has-singleton d d, eq-eqb d d refl)
+      go : Test (ltb d n) → (ltb d mostDisks && (ltb d n && isDirty labels d r)) ≡ (ltb d n && isDirty labels d r)
+      go (passes l) = rw (lt-ltb d mostDisks (omega (arith, ltb-true d n l)))
+      go (fails l) = rw (l, and-false (ltb d mostDisks))
 
   dirty-known : below (dirtyDisks n labels r) n ≡ true
   dirty-known =

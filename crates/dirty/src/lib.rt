@@ -3,21 +3,12 @@
 // eight labels, so that compiled code knows the disk in each iteration.
 ghost use mathlib.Core.Path.{_≡_};
 ghost use mathlib.Core.Bool.{cond};
-ghost use Prim.Native.Nat.{_≤_, _<_};
-ghost use Rattle.sets.specs.Sets.{singleton};
+ghost use Prim.Native.Nat.{_≤_};
 ghost use Rattle.dirty.specs.DirtyBits.{dirtyDisks, dirtyRegions};
 use label::Label;
 use regions::RegionMap;
 use sets::DISKS;
 use sets::Mask;
-
-// The disk as a set, if it is wanted.
-fn disk_if(wanted: bool, d: usize) -> Mask
-    requires { do ⌜ d < (← ⟦DISKS⟧) ⌝ }
-    ensures { λ r. ⌜ r ≡ cond wanted (singleton d) 0 ⌝ }
-{
-    if wanted { sets::singleton(d) } else { 0 }
-}
 
 // The map, if it is wanted.
 fn map_if(wanted: bool, map: RegionMap) -> RegionMap
@@ -36,7 +27,7 @@ pub fn dirty_disks(labels: [Label; DISKS], n: usize, r: usize) -> Mask
     while d < DISKS {
         let l = labels[d];
         let stands = (d < n) & regions::has(l.dirty, r);
-        set = sets::union(set, disk_if(stands, d));
+        set = sets::union(set, sets::singleton_if(stands, d));
         d += 1;
     }
     set

@@ -1,13 +1,16 @@
-// Document 01's calls on the cabinet itself, for programs in C and Rust: it is made, started and stopped, its disks are
-// lost and return. include/cabinet.h declares the functions.
+// The calls on the cabinet itself, for programs in C and Rust: it is made, started and stopped, its disks are lost and
+// return, and it is asked why a disk is not current. include/cabinet.h declares the functions.
 ghost use mathlib.Core.Path.{_≡_};
 ghost use mathlib.Core.List.{List};
 ghost use Prim.Native.Nat.{ℕ};
 ghost use Rattle.protocol.specs.Calls.{formatOutcome, restartOutcome, detachOutcome, attachOutcome, powerOffOutcome};
-ghost use Rattle.flat.specs.Flat.{opened, flatOutcome};
+ghost use Rattle.protocol.specs.Diagnosis.{diagnosis};
+ghost use Rattle.flat.specs.Flat.{opened, flatOutcome, flatDiagnosis};
 use flat::FlatAnswer;
+use flat::FlatDiagnosis;
 use flat::FlatState;
 use flat::flat_answer;
+use flat::flat_diagnosis;
 use flat::opened;
 
 #[no_mangle]
@@ -53,4 +56,12 @@ pub extern "C" fn cabinet_power_off(state: FlatState) -> FlatAnswer
         ≡ flatOutcome (powerOffOutcome (opened state) area output)) ⌝ }
 {
     flat_answer(cabinet::power_off(opened(state)))
+}
+
+// The caller keeps the state that it gave: "It changes nothing."
+#[no_mangle]
+pub extern "C" fn cabinet_diagnose(state: FlatState, stage: usize, disk: usize) -> FlatDiagnosis
+    ensures { λ r. ⌜ r ≡ flatDiagnosis (diagnosis (opened state) stage disk) ⌝ }
+{
+    flat_diagnosis(cabinet::diagnose(opened(state), stage, disk))
 }

@@ -25,7 +25,7 @@ fn all_back(stage: Stage, disks: usize, labels: [Label; DISKS], x: Mask) -> bool
     all
 }
 
-fn some_propose(stage: Stage, disks: usize, labels: [Label; DISKS], x: Mask) -> bool
+pub(crate) fn some_propose(stage: Stage, disks: usize, labels: [Label; DISKS], x: Mask) -> bool
     requires { do ⌜ disks ≤ (← ⟦DISKS⟧) ⌝ }
     ensures { λ r. ⌜ r ≡ some disks x (λ d. proposes (stageOf stage) (labelAt labels d) x) ⌝ }
 {

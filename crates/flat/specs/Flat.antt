@@ -8,11 +8,14 @@ use Rattle.protocol.specs.declared.Power.{Power}
 use Rattle.protocol.specs.declared.Power.the-variants.{Stopped, Running}
 use Rattle.protocol.specs.declared.State.{State}
 use Rattle.protocol.specs.declared.Answer.{Answer}
+use Rattle.protocol.specs.declared.Diagnosis.{Diagnosis}
 use Rattle.protocol.specs.States.{currentOf}
 use Rattle.protocol.specs.Soundness.{Sound}
 use Rattle.protocol.specs.Outcomes.{Outcome}
+use Rattle.protocol.specs.Diagnosis.{reasonNumber, reasonDisk}
 use Rattle.flat.specs.declared.FlatState.{FlatState}
 use Rattle.flat.specs.declared.FlatAnswer.{FlatAnswer}
+use Rattle.flat.specs.declared.FlatDiagnosis.{FlatDiagnosis}
 
 -- "either running with a current set G, or stopped with none": none is written 0, as the cabinet program prints it
 unfoldable pub powerOf : ℕ → Power
@@ -39,6 +42,14 @@ flatState s = record {
 
 unfoldable pub flatAnswer : Answer → FlatAnswer
 flatAnswer a = record { state = flatState (a .state); stores = a .stores; refusal = a .refusal }
+
+unfoldable pub flatDiagnosis : Diagnosis → FlatDiagnosis
+flatDiagnosis d = record {
+  disk = reasonDisk (d .reason);
+  refusal = d .refusal;
+  reason = reasonNumber (d .reason);
+  set = d .set;
+}
 
 -- what a program outside sees of a call
 pub record FlatOutcome : Type 0 where

@@ -1,10 +1,13 @@
 // States and answers as programs in C and Rust hold them: numbers only, laid out as C does. The labels come first,
 // and the state in an answer: so compiled code copies them in pieces that start where they do.
 ghost use mathlib.Core.Path.{_≡_};
-ghost use Rattle.flat.specs.Flat.{powerOf, opened, flatState, flatAnswer};
+ghost use Rattle.protocol.specs.Diagnosis.{reasonNumber, reasonDisk};
+ghost use Rattle.flat.specs.Flat.{powerOf, opened, flatState, flatAnswer, flatDiagnosis};
 use label::Label;
 use protocol::Answer;
+use protocol::Diagnosis;
 use protocol::Power;
+use protocol::Reason;
 use protocol::State;
 use sets::DISKS;
 use sets::Mask;
@@ -26,6 +29,16 @@ pub struct FlatAnswer {
     pub state: FlatState,
     pub stores: u16,
     pub refusal: u8,
+}
+
+// The answer of a diagnosis without its enum: the reason's number and disk, as `reasonNumber` and `reasonDisk` of
+// protocol/specs/Diagnosis.antt give them.
+#[repr(C)]
+pub struct FlatDiagnosis {
+    pub disk: usize,
+    pub refusal: u8,
+    pub reason: u8,
+    pub set: Mask,
 }
 
 fn power_of(current: Mask) -> Power
@@ -73,5 +86,43 @@ pub fn flat_answer(answer: Answer) -> FlatAnswer
         state: flat_state(s),
         stores: answer.stores,
         refusal: answer.refusal,
+    }
+}
+
+fn reason_number(reason: Reason) -> u8
+    ensures { λ r. ⌜ r ≡ reasonNumber reason ⌝ }
+{
+    match reason {
+        Reason::NoReason => 0,
+        Reason::Empty => 1,
+        Reason::OutOfReach(_) => 2,
+        Reason::Disagrees(_) => 3,
+        Reason::NoneProposes => 4,
+        Reason::IsCandidate => 5,
+    }
+}
+
+fn reason_disk(reason: Reason) -> usize
+    ensures { λ r. ⌜ r ≡ reasonDisk reason ⌝ }
+{
+    match reason {
+        Reason::NoReason => 0,
+        Reason::Empty => 0,
+        Reason::OutOfReach(d) => d,
+        Reason::Disagrees(d) => d,
+        Reason::NoneProposes => 0,
+        Reason::IsCandidate => 0,
+    }
+}
+
+pub fn flat_diagnosis(diagnosis: Diagnosis) -> FlatDiagnosis
+    ensures { λ r. ⌜ r ≡ flatDiagnosis diagnosis ⌝ }
+{
+    let reason = diagnosis.reason;
+    FlatDiagnosis {
+        disk: reason_disk(reason),
+        refusal: diagnosis.refusal,
+        reason: reason_number(reason),
+        set: diagnosis.set,
     }
 }

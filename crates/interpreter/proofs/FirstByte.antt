@@ -8,11 +8,13 @@ use lib.ListN.{getD, replicate}
 use borrow.Author.Tests.{ne-eqb}
 use Rattle.protocol.specs.declared.Call.{Call}
 use Rattle.protocol.specs.declared.Call.the-variants.{Read, Write, Join, Clean, Restart, Detach, Attach, PowerOff}
+use Rattle.protocol.specs.declared.Call.the-variants.{Diagnose}
 use Rattle.protocol.specs.Geometry.{blockSize}
 use Rattle.protocol.specs.Stores.{Store}
 use Rattle.protocol.specs.Outcomes.{Outcome, refusedOr, carryOut, runsWith}
 use Rattle.protocol.specs.Calls.{readOutcome, writeOutcome, joinOutcome, cleanOutcome}
 use Rattle.protocol.specs.Calls.{restartOutcome, detachOutcome, attachOutcome, powerOffOutcome}
+use Rattle.protocol.specs.Diagnosis.{diagnoseOutcome}
 use Rattle.protocol.specs.History.{Cabinet, perform}
 use Rattle.protocol.proofs.Outcomes.{refused-or, cut-or-whole}
 use Rattle.interpreter.specs.Execution.{isRead, firstByte}
@@ -48,7 +50,7 @@ module _ (bytes : List ℕ) (c : Cabinet) where
 
   pub first-byte : (call : Call) → IsFirstByte call (perform call bytes zeros c)
   unfolding perform firstByte readOutcome writeOutcome joinOutcome cleanOutcome restartOutcome detachOutcome
-      attachOutcome powerOffOutcome
+      attachOutcome powerOffOutcome diagnoseOutcome
   first-byte (Read k) =
       refused-or _ (c .state) (c .area) zeros _ (IsFirstByte (Read k)) (λ ne. rw (ne-eqb _ _ ne)) (λ z. refl)
   first-byte (Write k budget) = by-stores (Write k budget) _ _ _ _
@@ -58,3 +60,4 @@ module _ (bytes : List ℕ) (c : Cabinet) where
   first-byte (Detach d) = at-once (Detach d) _ _ refl
   first-byte (Attach d) = at-once (Attach d) _ _ refl
   first-byte PowerOff = at-once PowerOff _ _ refl
+  first-byte (Diagnose stage d) = at-once (Diagnose stage d) _ _ refl

@@ -7,6 +7,7 @@ use lib.ListN.{take, drop, getD, replicate}
 use Rattle.protocol.specs.declared.Answer.{Answer}
 use Rattle.protocol.specs.declared.Call.{Call}
 use Rattle.protocol.specs.declared.Call.the-variants.{Read, Write, Join, Clean, Restart, Detach, Attach, PowerOff}
+use Rattle.protocol.specs.declared.Call.the-variants.{Diagnose}
 use Rattle.protocol.specs.declared.State.{State}
 use Rattle.protocol.specs.Geometry.{blockSize, areaSize}
 use Rattle.protocol.specs.States.{currentOf}
@@ -63,6 +64,7 @@ isRead (Restart budget) = false
 isRead (Detach d) = false
 isRead (Attach d) = false
 isRead PowerOff = false
+isRead (Diagnose stage d) = false
 
 -- "(0 unless a read was done)"
 unfoldable pub firstByte : Call → ℕ → ℕ → ℕ

@@ -2,12 +2,13 @@
 use mathlib.Core.List.{List}
 use Rattle.protocol.specs.declared.Call.{Call}
 use Rattle.protocol.specs.declared.Call.the-variants.{Read, Write, Join, Clean, Restart, Detach, Attach, PowerOff}
+use Rattle.protocol.specs.declared.Call.the-variants.{Diagnose}
 use Prim.Native.Nat.{ℕ}
 use Rattle.protocol.specs.History.{Cabinet, perform}
 use Rattle.protocol.specs.Reference.{carriedBy}
 use Rattle.protocol.proofs.Preservation.{Preserves}
 use Rattle.protocol.proofs.StorelessCalls.{read-preserves, detach-preserves}
-use Rattle.protocol.proofs.StorelessCalls.{attach-preserves, power-off-preserves}
+use Rattle.protocol.proofs.StorelessCalls.{attach-preserves, power-off-preserves, diagnose-preserves}
 use Rattle.protocol.proofs.Writes.{write-preserves}
 use Rattle.protocol.proofs.Joins.{join-preserves}
 use Rattle.protocol.proofs.Cleans.{clean-preserves}
@@ -24,3 +25,4 @@ call-preserves (Restart budget) bytes output c = restart-preserves c output budg
 call-preserves (Detach d) bytes output c = detach-preserves c output d
 call-preserves (Attach d) bytes output c = attach-preserves c output d
 call-preserves PowerOff bytes output c = power-off-preserves c output
+call-preserves (Diagnose stage d) bytes output c = diagnose-preserves c output stage d

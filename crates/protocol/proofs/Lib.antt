@@ -47,4 +47,5 @@ pub mod ReadsRight
 pub mod WritesCount
 pub mod WriteBound
 pub mod MembersTold
+pub mod Diagnoses
 pub mod SoundnessKept

@@ -1,21 +1,21 @@
 -- What holds of loops that go up from 0, and of the lists that they build. Assumes nothing.
 use mathlib.Core.Path.{_≡_, refl, sym, ap, ap₂, _∙_}
 use mathlib.Core.Logic.{_≢_, _⊎_, inl, inr}
-use mathlib.Core.Bool.{Bool, true, false, cond, _||_, or-true}
+use mathlib.Core.Bool.{Bool, true, false, cond, _&&_, _||_, or-true}
 use mathlib.Core.List.{List, [], _∷_, _++_, append-nil, append-assoc}
 use Prim.Native.Nat.{ℕ, zero, suc, _+_, _≤_, _<_}
 use native.Mathlib.Omega.{arith}
 use lib.Dec.{ltb}
 use lib.ListN.{length, take, length-append}
-use borrow.Author.Tests.{ltb-true, ltb-false, lt-ltb, le-ltb}
-use Rattle.sets.specs.Sets.{has, below, size, members}
+use borrow.Author.Tests.{eqb-true, eq-eqb, ltb-true, ltb-false, lt-ltb, le-ltb}
+use Rattle.sets.specs.Sets.{has, singleton, below, size, members}
 use Rattle.sets.proofs.Tests.{Test, passes, fails, test, clash, and-parts, or-either}
 use Rattle.sets.proofs.Tests.{implied, implies, same-or-not, same-test}
 use Rattle.sets.proofs.Membership.{has-empty}
-use Rattle.sets.proofs.Operations.{has-union}
+use Rattle.sets.proofs.Operations.{has-union, has-singleton}
 use Rattle.sets.proofs.Bounds.{below-pow, below-members}
 use Rattle.sets.proofs.Cardinality.{size-members}
-use Rattle.protocol.specs.Loops.{ascending, forEach, allBelow, someBelow, every, some, unionBelow}
+use Rattle.protocol.specs.Loops.{ascending, forEach, allBelow, someBelow, every, some, unionBelow, disksWhere}
 
 -- what holds below n and at n holds below n + 1
 pub or-last : (P : ℕ → Type 0) (n d : ℕ) → d < suc n → (d < n → P d) → P n → P d
@@ -100,6 +100,30 @@ pub has-union-below : (f : ℕ → ℕ) (x n : ℕ) → has (unionBelow n f) x �
 unfolding unionBelow someBelow
 has-union-below f x zero = has-empty x
 has-union-below f x (suc n) = has-union (unionBelow n f) (f n) x ∙ rw (has-union-below f x n)
+
+-- a set that stands under a condition
+pub has-if : (t : Bool) (s d : ℕ) → has (cond t s 0) d ≡ (t && has s d)
+has-if true s d = refl
+has-if false s d = has-empty d
+
+pub has-disks-where : (n : ℕ) (p : ℕ → Bool) (d : ℕ) → has (disksWhere n p) d ≡ (ltb d n && p d)
+unfolding disksWhere
+has-disks-where n p d =
+    has-union-below _ d n
+    ∙ same-test (someBelow n here) (ltb d n && p d)
+    (λ e. let (i, l, h) = some-at n here e in found i l h)
+    (λ e. let (l, q) = and-parts (ltb d n) (p d) e in some-of n here d (ltb-true d n l) (own q))
+  where
+    here : ℕ → Bool
+    here i = has (cond (p i) (singleton i) 0) d
+
+    found : (i : ℕ) → i < n → here i ≡ true → (ltb d n && p d) ≡ true
+    found i l h =
+        let (q, same) = and-parts (p i) (has (singleton i) d) (sym (has-if (p i) (singleton i) d) ∙ h) in
+        rw (eqb-true d i (sym (has-singleton i d) ∙ same), lt-ltb i n l, q)
+
+    own : p d ≡ true → here d ≡ true
+    own q = has-if (p d) (singleton d) d ∙ rw (q, has-singleton d d, eq-eqb d d refl)
 
 -- ---- what holds of each element
 

@@ -25,7 +25,7 @@ use Rattle.protocol.proofs.Loops.{every-at, every-of, some-member, some
 
 -- ---- the test of a candidate
 
-backs-if : (stage : Stage) (l : Label) (x : ℕ) → backs stage l x ≡ true → Backs stage l x
+pub backs-if : (stage : Stage) (l : Label) (x : ℕ) → backs stage l x ≡ true → Backs stage l x
 unfolding backs
 backs-if first l x e = eqb-true _ _ e
 backs-if second l x e = go (or-either (eqb (l .tentative) x) (eqb (l .committed) x) e)
@@ -35,14 +35,14 @@ backs-if second l x e = go (or-either (eqb (l .tentative) x) (eqb (l .committed)
     go (inr q) = inr (eqb-true _ _ q)
 backs-if third l x e = eqb-true _ _ e
 
-if-backs : (stage : Stage) (l : Label) (x : ℕ) → Backs stage l x → backs stage l x ≡ true
+pub if-backs : (stage : Stage) (l : Label) (x : ℕ) → Backs stage l x → backs stage l x ≡ true
 unfolding backs
 if-backs first l x e = eq-eqb _ _ e
 if-backs second l x (inl e) = rw (eq-eqb _ _ e)
 if-backs second l x (inr e) = rw (eq-eqb _ _ e) (or-true (eqb (l .tentative) x))
 if-backs third l x e = eq-eqb _ _ e
 
-proposes-if : (stage : Stage) (l : Label) (x : ℕ) → proposes stage l x ≡ true → Proposes stage l x
+pub proposes-if : (stage : Stage) (l : Label) (x : ℕ) → proposes stage l x ≡ true → Proposes stage l x
 unfolding proposes
 proposes-if first l x e = tt
 proposes-if second l x e = eqb-true _ _ e

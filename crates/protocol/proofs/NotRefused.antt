@@ -18,6 +18,7 @@ use Rattle.protocol.specs.Soundness.{Sound, sound}
 use Rattle.protocol.specs.Naming.{Stage, Found, none, one, several, Candidate, foundNumber, theSet, foundBy}
 use Rattle.protocol.specs.Calls.{wrongArea, blockRefusals, joinRefusals}
 use Rattle.protocol.specs.Calls.{cleanRefusals, restartRefusals, reachRefusals}
+use Rattle.protocol.specs.Diagnosis.{diagnoseRefusals}
 use Rattle.protocol.proofs.Soundness.{test-agrees}
 use Rattle.protocol.proofs.Naming.{found-names}
 use Rattle.protocol.proofs.Backing.{found-candidate}
@@ -120,4 +121,11 @@ pub reach-passed : (s : State) (d : ℕ) → firstOf (reachRefusals s d) ≡ 0 �
 unfolding reachRefusals
 reach-passed s d e =
     let no = none-by (reachRefusals s d) refl e in
+    record { fit = sound-if s (no 1); known = ltb-true _ _ (not-false _ (no 8)) }
+
+-- what a diagnosis knows of the state and the disk, a lost or a returned disk's call knows too
+pub diagnose-passed : (s : State) (stage d : ℕ) → firstOf (diagnoseRefusals s stage d) ≡ 0 → ReachPassed s d
+unfolding diagnoseRefusals
+diagnose-passed s stage d e =
+    let no = none-by (diagnoseRefusals s stage d) refl e in
     record { fit = sound-if s (no 1); known = ltb-true _ _ (not-false _ (no 8)) }

@@ -34,9 +34,12 @@ unsound s = (1, not (sound s))
 abbrev pub areaUnfit : State → List ℕ → ℕ × Bool
 areaUnfit s area = (2, wrongArea (s .disks) (s .blocks) area)
 
--- those that several paragraphs have: "6, stopped", "8, d is not below n", "12, L is empty"
+-- those that several paragraphs have: "6, stopped", "7, running", "8, d is not below n", "12, L is empty"
 abbrev pub stopped : State → ℕ × Bool
 stopped s = (6, not (isRunning (s .power)))
+
+abbrev pub running : State → ℕ × Bool
+running s = (7, isRunning (s .power))
 
 abbrev pub noSuchDisk : State → ℕ → ℕ × Bool
 noSuchDisk s d = (8, not (ltb d (s .disks)))
@@ -130,7 +133,7 @@ abbrev pub refusalsFinding : State → List ℕ → Found → List (ℕ × Bool)
 refusalsFinding s area found =
     unsound s ∷
     areaUnfit s area ∷
-    (7, isRunning (s .power)) ∷
+    running s ∷
     (13, eqb (foundNumber found) 13) ∷
     (14, eqb (foundNumber found) 14) ∷
     []

@@ -9,6 +9,7 @@ pub mod Naming
 pub mod Finder
 pub mod Outcomes
 pub mod Calls
+pub mod Diagnosis
 pub mod Bays
 pub mod Saving
 pub mod History

@@ -3,7 +3,7 @@
 use mathlib.Core.Bool.{Bool, true, false, not, cond, _&&_, _||_}
 use mathlib.Core.List.{List, [], _++_}
 use Prim.Native.Nat.{ℕ, zero, suc}
-use Rattle.sets.specs.Sets.{has, union}
+use Rattle.sets.specs.Sets.{has, union, singleton}
 
 -- what f gives for 0, then for 1, and so on to n - 1
 unfoldable pub ascending : {A : Type 0} → ℕ → (ℕ → List A) → List A
@@ -34,3 +34,7 @@ some n s p = someBelow n (λ d. has s d && p d)
 unfoldable pub unionBelow : ℕ → (ℕ → ℕ) → ℕ
 unionBelow zero f = 0
 unionBelow (suc i) f = union (unionBelow i f) (f i)
+
+-- the disks below n of which p holds, as a set
+unfoldable pub disksWhere : ℕ → (ℕ → Bool) → ℕ
+disksWhere n p = unionBelow n (λ d. cond (p d) (singleton d) 0)

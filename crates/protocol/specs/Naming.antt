@@ -15,6 +15,11 @@ use Rattle.protocol.specs.Soundness.{Sound}
 pub data Stage : Type 0 where
   first second third : Stage
 
+abbrev pub stageNumber : Stage → ℕ
+stageNumber first = 1
+stageNumber second = 2
+stageNumber third = 3
+
 -- What the labels of disks in reach name.
 pub data Found : Type 0 where
   none : Found

@@ -29,7 +29,27 @@ pub struct Answer {
     pub state: State,
 }
 
-// The calls of document 01's list, "The list and the book". Numbers are wider than the state's own, so that 256 is no
+// Why a disk's own set is no candidate of a stage, or that it is one (document 02, 2.2): in the order of the paper's
+// sentence, with the disk where one is to blame. `reasonNumber` and `reasonDisk` of specs/Diagnosis.antt give each case's
+// number and value.
+pub enum Reason {
+    NoReason,
+    Empty,
+    OutOfReach(usize),
+    Disagrees(usize),
+    NoneProposes,
+    IsCandidate,
+}
+
+// What a diagnosis yields: the refusal's number, 0 if done; the reason; the set that a restart would find without the
+// disk, else 0.
+pub struct Diagnosis {
+    pub refusal: u8,
+    pub reason: Reason,
+    pub set: Mask,
+}
+
+// The calls of document 01's list, "The list and the book", and those that document 02 adds to it. Numbers are wider than the state's own, so that 256 is no
 // disk 0; the budget is the paper's supply, 0 to 65,535. A write's data and a read's output are lent beside the call.
 pub enum Call {
     Read { block: usize },
@@ -40,4 +60,5 @@ pub enum Call {
     Detach { disk: usize },
     Attach { disk: usize },
     PowerOff,
+    Diagnose { stage: usize, disk: usize },
 }

@@ -1,4 +1,4 @@
-// Document 01's refusal numbers.
+// The refusal numbers of document 01, and those that document 02 adds.
 
 // The state is not sound.
 pub const UNSOUND: u8 = 1;
@@ -62,6 +62,9 @@ pub const NO_ROOM: u8 = 21;
 
 // A dirty bit names no region.
 pub const NO_SUCH_REGION: u8 = 22;
+
+// The stage is not 1, 2 or 3.
+pub const NO_SUCH_STAGE: u8 = 23;
 
 // A line of the cabinet program that is no command.
 pub const BAD_LINE: u8 = 99;

@@ -3,6 +3,7 @@
 // A set's width stands here, in Mask and DISKS and in the two counts that name the integer type. No definition, law or
 // proof names it.
 ghost use mathlib.Core.Path.{_≡_};
+ghost use mathlib.Core.Bool.{cond};
 ghost use Prim.Native.Nat.{_^_, _<_, _≤_};
 ghost use Rattle.sets.specs.Sets.{has, union, intersection, difference, subset};
 ghost use Rattle.sets.specs.Sets.{singleton, all, below, size, lowest};
@@ -49,6 +50,14 @@ pub fn singleton(d: usize) -> Mask
     ensures { λ r. ⌜ r ≡ singleton d ⌝ }
 {
     1 << d
+}
+
+// The disk as a set, if it is wanted: for loops that collect disks.
+pub fn singleton_if(wanted: bool, d: usize) -> Mask
+    requires { do ⌜ d < (← ⟦DISKS⟧) ⌝ }
+    ensures { λ r. ⌜ r ≡ cond wanted (singleton d) 0 ⌝ }
+{
+    if wanted { singleton(d) } else { 0 }
 }
 
 // The disks below n. A mask holds no more than DISKS of them, so the bound must be asked.

@@ -7,10 +7,10 @@ mod proved;
 
 pub use oracle::Reference;
 pub use plain::Plain;
-pub use proved::{from_product, to_product, Proved};
+pub use proved::{from_product, to_product, told_by_product, Proved};
 
 use crate::case::Case;
-use reference::plain::{Reading, State};
+use reference::plain::{Diagnosis, Reading, State};
 
 /// What a call gave: everything that can differ.
 #[derive(Clone, Debug, PartialEq, Eq)]
@@ -27,6 +27,8 @@ pub struct Outcome {
     pub buffer: Vec<u8>,
     /// What a label reading yields, and the length that a label writing does. Of other calls it is zero.
     pub reading: Reading,
+    /// What a diagnosis tells. Of other calls it is zero.
+    pub told: Diagnosis,
 }
 
 /// What a label writing yields that gave this length.

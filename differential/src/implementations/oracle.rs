@@ -3,8 +3,9 @@
 use super::{written, Implementation, Outcome};
 use crate::case::{Call, Case};
 use reference::cabinet::{fresh, Answer, Cabinet};
+use reference::diagnosis::diagnose;
 use reference::mistakes::Rules;
-use reference::plain::Reading;
+use reference::plain::{Diagnosis, Reading};
 use reference::sets::DiskSet;
 use reference::{label, slots, state};
 
@@ -21,7 +22,7 @@ impl Implementation for Reference {
         let (mut buffer, area) = (case.buffer, case.area);
         let (disks, blocks, number) = (narrow(case.disks), narrow(case.blocks), narrow(case.number));
         let mut cabinet = Cabinet { rules, state, area };
-        let mut reading = Reading::default();
+        let (mut reading, mut told) = (Reading::default(), Diagnosis::default());
         let answer = match case.call {
             Call::Fresh => kept(&mut cabinet.state, fresh(rules, disks, blocks, &mut cabinet.area)),
             Call::Read => cabinet.read(number, &mut buffer),
@@ -32,6 +33,11 @@ impl Implementation for Reference {
             Call::Lose => cabinet.lose(number),
             Call::Return => cabinet.give_back(number),
             Call::Cut => cabinet.cut(),
+            Call::Diagnose => {
+                let (stage, disk) = (wide(case.stage), wide(case.number));
+                told = diagnose(rules, &cabinet.state, stage, disk).into();
+                cabinet.take(&reference::call::Call::Diagnose { stage, disk }, &mut buffer)
+            }
             Call::Save => slots::save(rules, &cabinet.state, &mut buffer),
             Call::Assemble => {
                 let reach = DiskSet(case.reach);
@@ -53,6 +59,7 @@ impl Implementation for Reference {
             area: cabinet.area,
             buffer,
             reading,
+            told,
         }
     }
 }
@@ -78,4 +85,9 @@ fn yielded(place: &mut Reading, result: Result<Reading, u8>) -> Answer {
 /// a number above 64, and each refuses all that are larger alike.
 fn narrow(number: usize) -> u16 {
     u16::try_from(number).unwrap_or(u16::MAX)
+}
+
+/// Those of a diagnosis have 32 bits. A larger one is given as the largest: no stage and no disk.
+fn wide(number: usize) -> u32 {
+    u32::try_from(number).unwrap_or(u32::MAX)
 }

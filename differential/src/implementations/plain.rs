@@ -2,7 +2,7 @@
 
 use super::{written, Implementation, Outcome};
 use crate::case::{Call, Case};
-use reference::plain::{self, Answer, Reading, State};
+use reference::plain::{self, Answer, Diagnosis, Reading, State};
 
 /// The module `plain` of the reference.
 pub struct Plain;
@@ -14,7 +14,7 @@ impl Implementation for Plain {
 
     fn make(&self, mut case: Case) -> Outcome {
         let (state, area, buffer) = (case.state, &mut case.area, &mut case.buffer);
-        let mut reading = Reading::default();
+        let (mut reading, mut told) = (Reading::default(), Diagnosis::default());
         let answer = match case.call {
             Call::Fresh => plain::fresh(case.disks, case.blocks, area),
             Call::Read => plain::read(state, area, case.number, buffer),
@@ -25,6 +25,10 @@ impl Implementation for Plain {
             Call::Lose => plain::lose(state, case.number),
             Call::Return => plain::give_back(state, case.number),
             Call::Cut => plain::cut(state),
+            Call::Diagnose => {
+                told = plain::diagnose(&state, case.stage, case.number);
+                unchanged(state, told.result)
+            }
             Call::Save => plain::save(state, buffer),
             Call::Assemble => plain::assemble(case.disks, case.blocks, case.reach, buffer),
             Call::ReadLabel => yielded(&mut reading, plain::read_label(buffer)),
@@ -40,7 +44,17 @@ impl Implementation for Plain {
             area: case.area,
             buffer: case.buffer,
             reading,
+            told,
         }
+    }
+}
+
+/// The answer of a call that makes no stores and leaves the state.
+fn unchanged(state: State, result: u8) -> Answer {
+    Answer {
+        result,
+        stores: 0,
+        state,
     }
 }
 
@@ -48,9 +62,5 @@ impl Implementation for Plain {
 fn yielded(place: &mut Reading, result: Result<Reading, u8>) -> Answer {
     let (reading, result) = result.map_or_else(|number| (Reading::default(), number), |reading| (reading, 0));
     *place = reading;
-    Answer {
-        result,
-        stores: 0,
-        state: State::default(),
-    }
+    unchanged(State::default(), result)
 }

@@ -3,8 +3,8 @@
 use super::guarded::Guarded;
 use super::{written, Implementation, Outcome};
 use crate::case::{Call, Case};
-use cabinet::Refusal;
-use reference::plain::{Label, Reading, State};
+use cabinet::{Reason, Refusal};
+use reference::plain::{Diagnosis, Label, Reading, State};
 
 /// The proved product.
 pub struct Proved;
@@ -28,6 +28,7 @@ impl Implementation for Proved {
             Call::Lose => state.detach(case.number),
             Call::Return => state.attach(case.number),
             Call::Cut => state.power_off(),
+            Call::Diagnose => return diagnose(case),
             Call::Save => state.save(buffer),
             Call::Assemble => cabinet::State::assemble(case.disks, case.blocks, case.reach, buffer),
             Call::ReadLabel => return read_label(&case),
@@ -40,7 +41,22 @@ impl Implementation for Proved {
             area: guarded_area.into_bytes(),
             buffer: guarded_buffer.into_bytes(),
             reading: Reading::default(),
+            told: Diagnosis::default(),
         }
+    }
+}
+
+/// A diagnosis: it takes no buffer, and its state stays the caller's.
+fn diagnose(case: Case) -> Outcome {
+    let told = told_by_product(to_product(case.state).diagnose(case.stage, case.number));
+    Outcome {
+        result: told.result,
+        stores: 0,
+        state: case.state,
+        area: case.area,
+        buffer: case.buffer,
+        reading: Reading::default(),
+        told,
     }
 }
 
@@ -75,12 +91,27 @@ fn label_outcome(case: &Case, outcome: Result<(), Refusal>, buffer: Guarded, rea
         area: case.area.clone(),
         buffer: buffer.into_bytes(),
         reading,
+        told: Diagnosis::default(),
     }
 }
 
 /// The number of an outcome.
 fn number(outcome: Result<(), Refusal>) -> u8 {
     outcome.map_or_else(Refusal::number, |()| 0)
+}
+
+/// What a diagnosis told, from the product's form.
+pub fn told_by_product(diagnosis: cabinet::Diagnosis) -> Diagnosis {
+    let disk = match diagnosis.reason {
+        Reason::OutOfReach(disk) | Reason::Disagrees(disk) => disk,
+        _ => 0,
+    };
+    Diagnosis {
+        result: number(diagnosis.outcome()),
+        reason: diagnosis.reason.number(),
+        disk: u8::try_from(disk).expect("a cabinet has at most 8 disks"),
+        set: diagnosis.set,
+    }
 }
 
 /// The state in the product's form.

@@ -1,10 +1,11 @@
-//! From the reference's states and labels, and back. A running state with no current disk, which is unsound, has no
-//! form here, and becomes a stopped one.
+//! From the reference's states, labels and diagnoses, and back from states and labels. A running state with no current
+//! disk, which is unsound, has no form here, and becomes a stopped one.
 
+use super::diagnosis::Diagnosis;
 use super::label::Reading;
 use super::state::{Label, State};
 use crate::sets::DiskSet;
-use crate::{label, state};
+use crate::{diagnosis, label, state};
 
 impl From<label::Label> for Label {
     fn from(label: label::Label) -> Label {
@@ -33,6 +34,17 @@ impl From<label::Reading> for Reading {
             disks: reading.disks,
             label: reading.label.into(),
             length: reading.length,
+        }
+    }
+}
+
+impl From<diagnosis::Diagnosis> for Diagnosis {
+    fn from(told: diagnosis::Diagnosis) -> Diagnosis {
+        Diagnosis {
+            result: told.result,
+            reason: told.reason.number(),
+            disk: told.reason.disk(),
+            set: told.set.0,
         }
     }
 }

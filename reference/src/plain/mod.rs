@@ -7,6 +7,7 @@
 
 mod answer;
 mod convert;
+mod diagnosis;
 mod fresh;
 mod label;
 mod naming;
@@ -19,6 +20,7 @@ mod state;
 mod stores;
 
 pub use answer::Answer;
+pub use diagnosis::{diagnose, Diagnosis};
 pub use fresh::fresh;
 pub use label::{read_label, write_label, Reading};
 pub use reach::{cut, give_back, lose};

@@ -1,6 +1,7 @@
 -- `cabinet::calls::apply` meets its contract. Assumes nothing.
 use borrow.Author.Needs.{needs}
 use Rattle.protocol.specs.History.{perform}
+use Rattle.protocol.proofs.Diagnoses.{diagnosis-in-list}
 use Rattle.cabinet.proofs.calls.apply.Statement.{statement}
 use Rattle.cabinet.proofs.calls.apply.Tie as tie
 
@@ -36,10 +37,20 @@ returns-8 : tie.Need-returns-8
 unfolding perform
 returns-8 c = rw (c .before .enum-told .given .1) (c .power-off .ensures _ _)
 
+returns-9 : tie.Need-returns-9
+unfolding perform
+returns-9 c =
+    rw (
+      c .before .before .before .call8 .given .1,
+      c .without-stores .ensures,
+      c .before .diagnose .ensures,
+    )
+    (diagnosis-in-list _ _ _ _ _)
+
 pub apply-spec : {M : Type 1} → statement M
 apply-spec =
     tie.close (tie.spec (search needs) (search needs) (search needs) (search needs) (search needs)
     (search needs) (search needs) (search needs) (search needs) (search needs) (search needs) (search needs)
-    (search needs) (search needs) (search needs) (search needs) (search needs) (search needs) returns
-    (search needs) returns-2 (search needs) returns-3 returns-4 (search needs) returns-5 returns-6 returns-7
-    returns-8)
+    (search needs) (search needs) (search needs) (search needs) (search needs) (search needs) (search needs)
+    (search needs) (search needs) returns (search needs) returns-2 (search needs) returns-3 returns-4 (search needs)
+    returns-5 returns-6 returns-7 returns-8 returns-9)

@@ -1,0 +1,120 @@
+//! Why a disk is not current.
+
+use crate::label::Label;
+use crate::refusal::{self, Refusal};
+use std::fmt;
+
+/// Why a disk's own set is no candidate of a stage, or that it is one, in the paper's order.
+#[derive(Clone, Copy, Debug, PartialEq, Eq, Hash)]
+pub enum Reason {
+    /// No reason: the call was refused.
+    None,
+    /// The set is empty: the disk has never been a member.
+    Empty,
+    /// The lowest disk of the set that is out of reach.
+    OutOfReach(usize),
+    /// The lowest disk of the set whose label disagrees with what the stage asks.
+    Disagrees(usize),
+    /// In stage 2: no disk of the set has it as its tentative set.
+    NoneProposes,
+    /// The set is a candidate of the stage.
+    Candidate,
+}
+
+impl Reason {
+    /// Its place in the paper's order, from 1; 0 for none.
+    pub fn number(self) -> u8 {
+        match self {
+            Reason::None => 0,
+            Reason::Empty => 1,
+            Reason::OutOfReach(_) => 2,
+            Reason::Disagrees(_) => 3,
+            Reason::NoneProposes => 4,
+            Reason::Candidate => 5,
+        }
+    }
+
+    /// The reason of a number, with the disk that it names.
+    fn of(number: u8, disk: usize) -> Reason {
+        match number {
+            1 => Reason::Empty,
+            2 => Reason::OutOfReach(disk),
+            3 => Reason::Disagrees(disk),
+            4 => Reason::NoneProposes,
+            5 => Reason::Candidate,
+            // 0: the proved library gives no other.
+            _ => Reason::None,
+        }
+    }
+}
+
+/// What the library's function yields: numbers only.
+#[repr(C)]
+pub(crate) struct Told {
+    disk: usize,
+    refusal: u8,
+    reason: u8,
+    set: u8,
+}
+
+/// What [`State::diagnose`](crate::State::diagnose) yields. It is shown as a sentence for a mechanic, such as `disk 2 of
+/// {0, 2} is out of reach`.
+#[must_use = "a diagnosis changes nothing"]
+#[derive(Clone, Copy, Debug, PartialEq, Eq)]
+pub struct Diagnosis {
+    /// The set that the reason speaks of: the disk's [own](Label::own_set).
+    pub own: u8,
+    /// Why this set is no candidate of the stage.
+    pub reason: Reason,
+    /// The set that a restart would find now, if it would find one without the disk; otherwise 0.
+    pub set: u8,
+    /// 0, or the refusal's number, as in an [`Answer`](crate::Answer).
+    refusal: u8,
+}
+
+impl Diagnosis {
+    /// What was told of a disk with this label; `None` if there is no such disk.
+    pub(crate) fn new(label: Option<&Label>, told: Told) -> Diagnosis {
+        let asked = label.filter(|_| told.refusal == 0);
+        Diagnosis {
+            own: asked.map_or(0, Label::own_set),
+            reason: Reason::of(told.reason, told.disk),
+            set: told.set,
+            refusal: told.refusal,
+        }
+    }
+
+    /// Whether the call was done, or why not.
+    pub fn outcome(self) -> Result<(), Refusal> {
+        refusal::outcome(self.refusal)
+    }
+}
+
+/// A set of disks as its members in braces.
+struct Members(u8);
+
+impl fmt::Display for Members {
+    fn fmt(&self, f: &mut fmt::Formatter<'_>) -> fmt::Result {
+        let members: Vec<String> = (0..8).filter(|d| self.0 >> d & 1 == 1).map(|d| d.to_string()).collect();
+        write!(f, "{{{}}}", members.join(", "))
+    }
+}
+
+impl fmt::Display for Diagnosis {
+    fn fmt(&self, f: &mut fmt::Formatter<'_>) -> fmt::Result {
+        let own = Members(self.own);
+        match (self.outcome(), self.reason) {
+            (Err(refusal), _) => write!(f, "{refusal}")?,
+            (_, Reason::None) => write!(f, "no reason")?,
+            (_, Reason::Empty) => write!(f, "the disk has never been a member")?,
+            (_, Reason::OutOfReach(disk)) => write!(f, "disk {disk} of {own} is out of reach")?,
+            (_, Reason::Disagrees(disk)) => write!(f, "disk {disk} of {own} disagrees")?,
+            (_, Reason::NoneProposes) => write!(f, "no disk of {own} proposes it")?,
+            (_, Reason::Candidate) => write!(f, "{own} is a candidate")?,
+        }
+        match self.set {
+            0 => Ok(()),
+            set => write!(f, "; a restart would find {}", Members(set)),
+        }
+    }
+}
