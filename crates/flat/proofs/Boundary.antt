@@ -15,9 +15,10 @@ use Rattle.protocol.specs.declared.Answer.{Answer}
 use Rattle.protocol.specs.States.{currentOf}
 use Rattle.protocol.specs.Soundness.{FitPower}
 use Rattle.protocol.specs.Outcomes.{Outcome}
+use Rattle.protocol.proofs.Diagnoses.{changes-nothing}
 use Rattle.flat.specs.declared.FlatAnswer.{FlatAnswer}
 use Rattle.flat.specs.Flat.{FlatOutcome, powerOf, opened, flatState, flatAnswer, flatOutcome}
-use Rattle.flat.specs.Flat.{OpenedIsWritten, SoundIsWritten}
+use Rattle.flat.specs.Flat.{flatDiagnosis, DiagnosisIsCall, OpenedIsWritten, SoundIsWritten}
 
 pub flat-outcome : {r : FlatAnswer} {a : Answer} {area output : List ℕ} {o : Outcome} → r ≡ flatAnswer a
     → record { answer = a; area = area; output = output } ≡ o
@@ -36,6 +37,10 @@ current-written g = go (test (eqb g 0))
 pub opened-is-written : OpenedIsWritten
 unfolding flatState opened
 opened-is-written f = rw (current-written (f .current))
+
+pub diagnosis-is-call : DiagnosisIsCall
+unfolding flatOutcome flatAnswer flatDiagnosis
+diagnosis-is-call f area output stage d = rw (changes-nothing (opened f) area output stage d, opened-is-written f)
 
 power-written : (n : ℕ) (labels : List Label) (p : Power) → FitPower n labels p → powerOf (currentOf p) ≡ p
 unfolding powerOf

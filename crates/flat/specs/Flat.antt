@@ -12,7 +12,7 @@ use Rattle.protocol.specs.declared.Diagnosis.{Diagnosis}
 use Rattle.protocol.specs.States.{currentOf}
 use Rattle.protocol.specs.Soundness.{Sound}
 use Rattle.protocol.specs.Outcomes.{Outcome}
-use Rattle.protocol.specs.Diagnosis.{reasonNumber, reasonDisk}
+use Rattle.protocol.specs.Diagnosis.{reasonNumber, reasonDisk, diagnosis, diagnoseOutcome}
 use Rattle.flat.specs.declared.FlatState.{FlatState}
 use Rattle.flat.specs.declared.FlatAnswer.{FlatAnswer}
 use Rattle.flat.specs.declared.FlatDiagnosis.{FlatDiagnosis}
@@ -59,6 +59,16 @@ pub record FlatOutcome : Type 0 where
 
 unfoldable pub flatOutcome : Outcome → FlatOutcome
 flatOutcome o = record { answer = flatAnswer (o .answer); area = o .area; output = o .output }
+
+-- What a program outside has after a diagnosis, its number, no stores and the state that it gave, is what the list's
+-- call yields.
+abbrev pub DiagnosisIsCall : Type 0
+DiagnosisIsCall = (f : FlatState) (area output : List ℕ) (stage d : ℕ)
+    → _≡_ {A = FlatOutcome} (record {
+      answer = record { state = f; stores = 0; refusal = flatDiagnosis (diagnosis (opened f) stage d) .refusal };
+      area = area;
+      output = output;
+    }) (flatOutcome (diagnoseOutcome (opened f) area output stage d))
 
 -- ---- one way of writing each
 

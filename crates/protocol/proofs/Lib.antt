@@ -47,5 +47,6 @@ pub mod ReadsRight
 pub mod WritesCount
 pub mod WriteBound
 pub mod MembersTold
+pub mod Reasons
 pub mod Diagnoses
 pub mod SoundnessKept

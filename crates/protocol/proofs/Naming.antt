@@ -21,7 +21,7 @@ use Rattle.protocol.specs.Naming.{Stage, first, second, third, Found, no
 use Rattle.protocol.specs.Naming.{Candidate, Exactly, no-set, one-set, several-sets, Decides, here}
 use Rattle.protocol.specs.Naming.{further, nowhere, stages, Names, backs, proposes, candidate, candidates}
 use Rattle.protocol.specs.Naming.{foundIn, orLater, decide, named, NamedAsDefined, foundBy}
-use Rattle.protocol.proofs.Loops.{every-at, every-of, some-member, some-is}
+use Rattle.protocol.proofs.Loops.{every-at, every-of, some-member, some-is, Each, nil, cons}
 
 -- ---- the test of a candidate
 
@@ -184,6 +184,23 @@ decides-same (here a p) (further q h) = absurd (a (exactly-same p q))
 decides-same (further p h) (here b q) = absurd (b (exactly-same q p))
 decides-same (further p h) (further q k) = decides-same h k
 decides-same nowhere nowhere = refl
+
+-- where they name none, no stage has a candidate
+no-candidates : {online : ℕ} {labels : List Label} {stages : List Stage} → Decides online labels stages none
+    → Each (λ stage. (x : ℕ) → Candidate stage online labels x → ⊥) stages
+no-candidates (here ne e) = absurd (ne refl)
+no-candidates (further (no-set h) later) = cons h (no-candidates later)
+no-candidates nowhere = nil
+
+pub no-candidate : {online : ℕ} {labels : List Label} → Names online labels none → (stage : Stage) (x : ℕ)
+    → Candidate stage online labels x → ⊥
+no-candidate {online} {labels} names stage = go stage (no-candidates names)
+  where
+    go : (stage : Stage) → Each (λ each. (x : ℕ) → Candidate each online labels x → ⊥) stages → (x : ℕ)
+        → Candidate stage online labels x → ⊥
+    go first (cons a later) = a
+    go second (cons a (cons b later)) = b
+    go third (cons a (cons b (cons c later))) = c
 
 pub named-names : (n online : ℕ) (labels : List Label) → online < 2 ^ n → Names online labels (named n online labels)
 unfolding named

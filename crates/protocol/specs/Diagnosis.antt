@@ -124,12 +124,17 @@ diagnosis s stage d =
     cond (eqb (firstOf (diagnoseRefusals s stage d)) 0) (diagnosed s stage d)
     (record { refusal = firstOf (diagnoseRefusals s stage d); reason = NoReason; set = 0 })
 
--- What it leaves as a call of the list: "It changes nothing."
+-- what it leaves as a call of the list
 unfoldable pub diagnoseOutcome : State → List ℕ → List ℕ → ℕ → ℕ → Outcome
 diagnoseOutcome s area output stage d =
     refusedOr (diagnoseRefusals s stage d) s area output (outcome 0 0 s area output)
 
 -- ---- what is proved of it
+
+-- "It changes nothing": in the list it gives its number, makes no store, and leaves state and buffers.
+abbrev pub ChangesNothing : Type 0
+ChangesNothing = (s : State) (area output : List ℕ) (stage d : ℕ)
+    → diagnoseOutcome s area output stage d ≡ outcome (diagnosis s stage d .refusal) 0 s area output
 
 -- "The reason given is proved true and the earliest in that order."
 pub record ReasonRight (stage : Stage) (online : ℕ) (labels : List Label) (x : ℕ) (reason : Reason) : Type 0 where

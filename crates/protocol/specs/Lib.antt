@@ -1,4 +1,4 @@
--- Document 01 as definitions, in its order.
+-- Document 01 as definitions, in its order; document 02's stand beside their neighbours.
 pub mod Geometry
 pub mod Loops
 pub mod States

@@ -1,7 +1,8 @@
 -- `cabinet::calls::apply` meets its contract. Assumes nothing.
+use mathlib.Core.Path.{sym}
 use borrow.Author.Needs.{needs}
 use Rattle.protocol.specs.History.{perform}
-use Rattle.protocol.proofs.Diagnoses.{diagnosis-in-list}
+use Rattle.protocol.proofs.Diagnoses.{changes-nothing}
 use Rattle.cabinet.proofs.calls.apply.Statement.{statement}
 use Rattle.cabinet.proofs.calls.apply.Tie as tie
 
@@ -45,7 +46,7 @@ returns-9 c =
       c .without-stores .ensures,
       c .before .diagnose .ensures,
     )
-    (diagnosis-in-list _ _ _ _ _)
+    (sym (changes-nothing _ _ _ _ _))
 
 pub apply-spec : {M : Type 1} → statement M
 apply-spec =

@@ -1,11 +1,9 @@
 -- `finder::reasons::dissenters` meets its contract. Assumes nothing.
 use mathlib.Core.Path.{_≡_, refl}
-use mathlib.Core.Bool.{not, _&&_}
 use Prim.Native.Nat.{_-_, _≤_}
 use native.Mathlib.Numerals.{add-one}
 use native.Mathlib.Omega.{arith}
 use borrow.Author.Needs.{needs}
-use Rattle.sets.specs.Sets.{has}
 use Rattle.protocol.specs.Loops.{unionBelow, disksWhere}
 use Rattle.protocol.specs.Diagnosis.{dissenters}
 use Rattle.finder.specs.Stages.{stageOf}
