@@ -1,7 +1,7 @@
 /*
  * The calls of the cohort-set disk cabinet (documents 01 and 02), for C99 and C++ on x86-64 Linux. Each function is
- * proved to give what the definition of its call says: crates/protocol/specs/Calls.antt, Diagnosis.antt and Saving.antt,
- * and crates/label/specs/Reading.antt and Writing.antt.
+ * proved to give what the definition of its call says: crates/protocol/specs/Calls.antt, Diagnosis.antt and
+ * Saving.antt, and crates/label/specs/Reading.antt and Writing.antt.
  *
  * Build and link:  ./library
  *                  cc -Iinclude program.c target/libcabinet.a
@@ -115,8 +115,8 @@ enum cabinet_refusal {
     CABINET_NO_SUCH_STAGE = 23      /* the stage is not 1, 2 or 3 */
 };
 
-/* Why a disk's own set (its tentative one if there is one, else its committed one) is no candidate of a stage. The first
-   in this order that is true is given. */
+/* Why a disk's own set (its tentative one if there is one, else its committed one) is no candidate of a stage. The
+   first in this order that is true is given. */
 enum cabinet_reason {
     CABINET_NO_REASON = 0,     /* the call was refused */
     CABINET_EMPTY = 1,         /* the set is empty: the disk has never been a member */
@@ -168,9 +168,9 @@ struct cabinet_answer cabinet_attach(struct cabinet_state state, size_t disk);
    Refuses: 1. */
 struct cabinet_answer cabinet_power_off(struct cabinet_state state);
 
-/* Why the disk of a stopped cabinet is not current: what keeps its own set from being a candidate of the stage. In stage 1
-   every disk of the set must have it as its tentative set; in stage 2 every one as its tentative or its committed set,
-   and some as its tentative one; in stage 3 every one as its committed set. It changes nothing.
+/* Why the disk of a stopped cabinet is not current: what keeps its own set from being a candidate of the stage. In
+   stage 1 every disk of the set must have it as its tentative set; in stage 2 every one as its tentative or its
+   committed set, and some as its tentative one; in stage 3 every one as its committed set. It changes nothing.
    Refuses: 1, 7, 8, 23. */
 struct cabinet_diagnosis cabinet_diagnose(struct cabinet_state state, size_t stage, size_t disk);
 

@@ -149,11 +149,12 @@ impl State {
     /// let mut state = State { disks: 2, blocks: 1, online: 2, ..State::default() };
     /// state.labels[..2].fill(Label { committed: 3, ..Label::default() });
     /// let diagnosis = state.diagnose(3, 1);
-    /// assert_eq!((diagnosis.outcome(), diagnosis.reason), (Ok(()), Reason::OutOfReach(0)));
+    /// assert_eq!((diagnosis.outcome(), diagnosis.reason), (Ok(()), Some(Reason::OutOfReach(0))));
     /// assert_eq!(diagnosis.to_string(), "disk 0 of {0, 1} is out of reach");
     /// ```
     ///
-    /// Refusals: 1 not sound, 7 running, 8 no such disk, 23 no such stage. Refused, it gives no reason and 0 for the sets.
+    /// Refusals: 1 not sound, 7 running, 8 no such disk, 23 no such stage. Refused, it gives no reason and 0 for the
+    /// sets.
     #[inline]
     pub fn diagnose(self, stage: usize, disk: usize) -> Diagnosis {
         Diagnosis::new(self.labels.get(disk), cabinet_diagnose(self, stage, disk))

@@ -7,8 +7,6 @@ use std::fmt;
 /// Why a disk's own set is no candidate of a stage, or that it is one, in the paper's order.
 #[derive(Clone, Copy, Debug, PartialEq, Eq, Hash)]
 pub enum Reason {
-    /// No reason: the call was refused.
-    None,
     /// The set is empty: the disk has never been a member.
     Empty,
     /// The lowest disk of the set that is out of reach.
@@ -22,10 +20,9 @@ pub enum Reason {
 }
 
 impl Reason {
-    /// Its place in the paper's order, from 1; 0 for none.
+    /// Its place in the paper's order, from 1.
     pub fn number(self) -> u8 {
         match self {
-            Reason::None => 0,
             Reason::Empty => 1,
             Reason::OutOfReach(_) => 2,
             Reason::Disagrees(_) => 3,
@@ -34,16 +31,23 @@ impl Reason {
         }
     }
 
-    /// The reason of a number, with the disk that it names.
-    fn of(number: u8, disk: usize) -> Reason {
+    /// The disk that it names.
+    pub fn disk(self) -> Option<usize> {
+        match self {
+            Reason::OutOfReach(disk) | Reason::Disagrees(disk) => Some(disk),
+            Reason::Empty | Reason::NoneProposes | Reason::Candidate => None,
+        }
+    }
+
+    /// The reason of a number, with the disk that it names. 0 is none; the proved library gives no other number.
+    fn of(number: u8, disk: usize) -> Option<Reason> {
         match number {
-            1 => Reason::Empty,
-            2 => Reason::OutOfReach(disk),
-            3 => Reason::Disagrees(disk),
-            4 => Reason::NoneProposes,
-            5 => Reason::Candidate,
-            // 0: the proved library gives no other.
-            _ => Reason::None,
+            1 => Some(Reason::Empty),
+            2 => Some(Reason::OutOfReach(disk)),
+            3 => Some(Reason::Disagrees(disk)),
+            4 => Some(Reason::NoneProposes),
+            5 => Some(Reason::Candidate),
+            _ => None,
         }
     }
 }
@@ -57,15 +61,15 @@ pub(crate) struct Told {
     set: u8,
 }
 
-/// What [`State::diagnose`](crate::State::diagnose) yields. It is shown as a sentence for a mechanic, such as `disk 2 of
-/// {0, 2} is out of reach`.
+/// What [`State::diagnose`](crate::State::diagnose) yields. It is shown as a sentence for a mechanic, such as `disk 2
+/// of {0, 2} is out of reach`.
 #[must_use = "a diagnosis changes nothing"]
 #[derive(Clone, Copy, Debug, PartialEq, Eq)]
 pub struct Diagnosis {
     /// The set that the reason speaks of: the disk's [own](Label::own_set).
     pub own: u8,
-    /// Why this set is no candidate of the stage.
-    pub reason: Reason,
+    /// Why this set is no candidate of the stage; none if the call was refused.
+    pub reason: Option<Reason>,
     /// The set that a restart would find now, if it would find one without the disk; otherwise 0.
     pub set: u8,
     /// 0, or the refusal's number, as in an [`Answer`](crate::Answer).
@@ -102,15 +106,17 @@ impl fmt::Display for Members {
 
 impl fmt::Display for Diagnosis {
     fn fmt(&self, f: &mut fmt::Formatter<'_>) -> fmt::Result {
+        if let Err(refusal) = self.outcome() {
+            return write!(f, "{refusal}");
+        }
         let own = Members(self.own);
-        match (self.outcome(), self.reason) {
-            (Err(refusal), _) => write!(f, "{refusal}")?,
-            (_, Reason::None) => write!(f, "no reason")?,
-            (_, Reason::Empty) => write!(f, "the disk has never been a member")?,
-            (_, Reason::OutOfReach(disk)) => write!(f, "disk {disk} of {own} is out of reach")?,
-            (_, Reason::Disagrees(disk)) => write!(f, "disk {disk} of {own} disagrees")?,
-            (_, Reason::NoneProposes) => write!(f, "no disk of {own} proposes it")?,
-            (_, Reason::Candidate) => write!(f, "{own} is a candidate")?,
+        match self.reason {
+            None => write!(f, "no reason")?,
+            Some(Reason::Empty) => write!(f, "the disk has never been a member")?,
+            Some(Reason::OutOfReach(disk)) => write!(f, "disk {disk} of {own} is out of reach")?,
+            Some(Reason::Disagrees(disk)) => write!(f, "disk {disk} of {own} disagrees")?,
+            Some(Reason::NoneProposes) => write!(f, "no disk of {own} proposes it")?,
+            Some(Reason::Candidate) => write!(f, "{own} is a candidate")?,
         }
         match self.set {
             0 => Ok(()),

@@ -1,5 +1,5 @@
-//! The cohort-set disk cabinet for Rust: the calls of the project's documents 01 and 02, by a library whose every answer, state
-//! and buffer is proved to be what the document's definitions say.
+//! The cohort-set disk cabinet for Rust: the calls of the project's documents 01 and 02, by a library whose every
+//! answer, state and buffer is proved to be what the documents' definitions say.
 //!
 //! A cabinet keeps the same blocks on up to 8 disks, and a restart finds the disks that are current, whenever the power
 //! went. The caller holds the [`State`] and the disk area, one buffer for all disks; a call takes them and yields an

@@ -1,6 +1,6 @@
 //! Each call's refusals, each alone: the answer is its number, and everything stays as it was.
 
-use cabinet::{Answer, Label, Reason, Refusal, State};
+use cabinet::{Answer, Label, Refusal, State};
 use Refusal::*;
 
 /// The length of the area of the cabinets below: 2 disks of 9 blocks.
@@ -173,7 +173,7 @@ fn detach_attach_and_power_off_refuse() {
 fn diagnose_refuses() {
     let refused = |state: State, stage, disk| {
         let diagnosis = state.diagnose(stage, disk);
-        assert_eq!((diagnosis.reason, diagnosis.own, diagnosis.set), (Reason::None, 0, 0));
+        assert_eq!((diagnosis.reason, diagnosis.own, diagnosis.set), (None, 0, 0));
         diagnosis.outcome()
     };
     assert_eq!(refused(unsound(), 0, 2), Err(Unsound));

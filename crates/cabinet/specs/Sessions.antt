@@ -38,7 +38,8 @@ yielded x = yields (x .answer) (x .area) (x .output)
 -- A call was given this state and area, and has kept its promise: it yielded what the protocol's call does. This is the
 -- `ensures` of `apply`; that of each other function of src/ is the same of its own call, as `perform` says, for
 -- whatever output it is not lent, and the proof of `apply` takes them as they stand. A diagnosis yields no answer: its
--- caller has its number, no stores and the state that it gave, which by `ChangesNothing` is what the list's call yields.
+-- caller has its number, no stores and the state that it gave, which by `ChangesNothing` is what the list's call
+-- yields.
 abbrev pub Returned : State → List ℕ → Exchange → Type 0
 Returned s area x = yielded x ≡ outcomeOf (x .given) (record { state = s; area = area })
 

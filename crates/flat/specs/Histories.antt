@@ -19,8 +19,8 @@ pub record FlatExchange : Type 0 where
   pub yielded : FlatOutcome
 
 -- It was given this state and area, and has kept its promise. This is the `ensures` of the exported function of the
--- call, as `perform` says; of a buffer that the function is not lent, it says that for every content. A diagnosis yields
--- no answer: that of its call is by `DiagnosisIsCall`.
+-- call, as `perform` says; of a buffer that the function is not lent, it says that for every content. A diagnosis
+-- yields no answer: that of its call is by `DiagnosisIsCall`.
 abbrev pub FlatReturned : FlatState → List ℕ → FlatExchange → Type 0
 FlatReturned f area x = x .yielded ≡ flatOutcome (outcomeOf (x .given) (record { state = opened f; area = area }))
 

@@ -2,14 +2,14 @@
 -- nothing.
 use mathlib.Core.Path.{_≡_, refl, sym, ap, _∙_, subst}
 use mathlib.Core.Logic.{_≢_, _⊎_, inl, inr}
-use mathlib.Core.Bool.{true, false, cond}
+use mathlib.Core.Bool.{true, false}
 use mathlib.Core.List.{List}
 use Prim.Native.Nat.{ℕ, _<_}
 use native.Mathlib.Omega.{arith}
-use lib.Dec.{eqb, lit<}
+use lib.Dec.{lit<}
 use borrow.Author.Tests.{eq-eqb, ne-eqb, lt-ltb}
 use Rattle.sets.specs.Sets.{has, below}
-use Rattle.sets.proofs.Tests.{Test, passes, fails, test, same-or-not}
+use Rattle.sets.proofs.Tests.{same-or-not}
 use Rattle.label.specs.declared.Label.{Label}
 use Rattle.refusals.specs.Refusals.{firstOf}
 use Rattle.protocol.specs.declared.Power.the-variants.{Stopped}
@@ -49,10 +49,21 @@ set-right s d fit = record {
 
 -- ---- the call
 
-own-is : {l : Label} {x : ℕ} → Own l x → x ≡ ownSet l
+own-is : (l : Label) → Own l (ownSet l)
 unfolding ownSet
-own-is (tentative ne) = rw (ne-eqb _ _ ne)
-own-is (committed e) = rw (eq-eqb _ _ e)
+own-is l = go (same-or-not (l .tentative) 0)
+  where
+    go : (l .tentative ≡ 0) ⊎ (l .tentative ≢ 0) → Own l (ownSet l)
+    go (inl e) = rw (eq-eqb _ _ e) (committed e)
+    go (inr ne) = rw (ne-eqb _ _ ne) (tentative ne)
+
+-- it names disks that there are
+own-known : (s : State) (d : ℕ) → Sound s → d < s .disks → below (ownSet (labelAt (s .labels) d)) (s .disks) ≡ true
+own-known s d fit l = go (own-is (labelAt (s .labels) d))
+  where
+    go : {x : ℕ} → Own (labelAt (s .labels) d) x → below x (s .disks) ≡ true
+    go (tentative ne) = fit .labels .each d l .tentative .known
+    go (committed e) = fit .labels .each d l .committed .known
 
 stage-is : (stage : Stage) → stageNumbered (stageNumber stage) ≡ stage
 stage-is first = refl
@@ -63,19 +74,6 @@ is-stage : (stage : Stage) → noSuchStage (stageNumber stage) ≡ false
 is-stage first = refl
 is-stage second = refl
 is-stage third = refl
-
--- an own set names disks that there are
-own-known : (s : State) (d : ℕ) → Sound s → d < s .disks → below (ownSet (labelAt (s .labels) d)) (s .disks) ≡ true
-unfolding ownSet
-own-known s d fit l = go (test (eqb (label .tentative) 0))
-  where
-    label : Label
-    label = labelAt (s .labels) d
-
-    go : Test (eqb (label .tentative) 0)
-        → below (cond (eqb (label .tentative) 0) (label .committed) (label .tentative)) (s .disks) ≡ true
-    go (passes e) = rw e (fit .labels .each d l .committed .known)
-    go (fails e) = rw e (fit .labels .each d l .tentative .known)
 
 not-refused : (s : State) (stage : Stage) (d : ℕ) → Sound s → s .power ≡ Stopped → d < s .disks
     → firstOf (diagnoseRefusals s (stageNumber stage) d) ≡ 0
@@ -95,7 +93,9 @@ diagnosed-right s stage d fit off l =
     rw (eq-eqb _ _ (not-refused s stage d fit off l), stage-is stage)
     (record {
       done = refl;
-      reason = λ x own. rw (own-is own) (reason-right stage (s .disks) (s .online) (s .labels) _ (own-known s d fit l));
+      own = ownSet (labelAt (s .labels) d);
+      is-own = own-is (labelAt (s .labels) d);
+      reason = reason-right stage (s .disks) (s .online) (s .labels) _ (own-known s d fit l);
       set = set-right s d fit;
     })
 

@@ -1,5 +1,5 @@
--- Document 02, 2.2, "Tell me why this disk is not current": for a stopped cabinet, a stage and a disk, why the disk's own
--- set is no candidate of the stage, and which set a restart would find without the disk.
+-- Document 02, 2.2, "Tell me why this disk is not current": for a stopped cabinet, a stage and a disk, why the disk's
+-- own set is no candidate of the stage, and which set a restart would find without the disk.
 use mathlib.Core.Path.{_≡_}
 use mathlib.Core.Logic.{_≢_, _↔_}
 use mathlib.Core.Bool.{Bool, true, false, not, cond, _&&_, _||_}
@@ -82,6 +82,9 @@ unreachable online x = difference x online
 unfoldable pub dissenters : Stage → ℕ → List Label → ℕ → ℕ
 dissenters stage n labels x = disksWhere n (λ d. has x d && not (backs stage (labelAt labels d) x))
 
+-- "the set is empty, or the lowest disk of it that is out of reach, or else the lowest disk of it that disagrees with
+-- what that stage asks, or in stage 2 that no member has the set as its T, or that the set is a candidate": the first
+-- that is so. Only stage 2 asks for a proposal (`proposes`).
 unfoldable pub reasonFor : Stage → ℕ → ℕ → List Label → ℕ → Reason
 reasonFor stage n online labels x =
     cond (eqb x 0) Empty
@@ -151,8 +154,10 @@ pub record SetRight (online : ℕ) (labels : List Label) (d set : ℕ) : Type 0 
 -- of every sound, stopped state, every stage and every disk that there is
 pub record Diagnosed (s : State) (stage : Stage) (d : ℕ) (given : Diagnosis) : Type 0 where
   pub done : given .refusal ≡ 0
-  pub reason : (x : ℕ) → Own (labelAt (s .labels) d) x
-      → ReasonRight stage (s .online) (s .labels) x (given .reason)
+  -- the disk's own set, and the reason of it
+  pub own : ℕ
+  pub is-own : Own (labelAt (s .labels) d) own
+  pub reason : ReasonRight stage (s .online) (s .labels) own (given .reason)
   pub set : SetRight (s .online) (s .labels) d (given .set)
 
 abbrev pub DiagnosedRight : Type 0

@@ -49,8 +49,8 @@ abbrev pub carriedWrite : ℕ → List ℕ → ℕ → State → CarriedWrite
 carriedWrite k bytes budget s =
     record { block = k; bytes = bytes; source = source (live s); made = made budget (writeList s k bytes) }
 
--- the writes that a call carries out on this cabinet, in order: "The other seven calls leave the book as it is." So does
--- a diagnosis.
+-- the writes that a call carries out on this cabinet, in order: "The other seven calls leave the book as it is." So
+-- does a diagnosis.
 unfoldable pub carriedBy : Call → List ℕ → Cabinet → List CarriedWrite
 carriedBy (Read k) bytes c = []
 carriedBy (Write k budget) bytes c =

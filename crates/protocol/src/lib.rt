@@ -30,8 +30,8 @@ pub struct Answer {
 }
 
 // Why a disk's own set is no candidate of a stage, or that it is one (document 02, 2.2): in the order of the paper's
-// sentence, with the disk where one is to blame. `reasonNumber` and `reasonDisk` of specs/Diagnosis.antt give each case's
-// number and value.
+// sentence, with the disk that the sentence names. `reasonNumber` and `reasonDisk` of specs/Diagnosis.antt give each
+// case's number and value.
 pub enum Reason {
     NoReason,
     Empty,
@@ -49,8 +49,9 @@ pub struct Diagnosis {
     pub set: Mask,
 }
 
-// The calls of document 01's list, "The list and the book", and those that document 02 adds to it. Numbers are wider than the state's own, so that 256 is no
-// disk 0; the budget is the paper's supply, 0 to 65,535. A write's data and a read's output are lent beside the call.
+// The calls of document 01's list, "The list and the book", and those that document 02 adds to it. Numbers are wider
+// than the state's own, so that 256 is no disk 0; the budget is the paper's supply, 0 to 65,535. A write's data and a
+// read's output are lent beside the call.
 pub enum Call {
     Read { block: usize },
     Write { block: usize, budget: u16 },

@@ -102,13 +102,10 @@ fn number(outcome: Result<(), Refusal>) -> u8 {
 
 /// What a diagnosis told, from the product's form.
 pub fn told_by_product(diagnosis: cabinet::Diagnosis) -> Diagnosis {
-    let disk = match diagnosis.reason {
-        Reason::OutOfReach(disk) | Reason::Disagrees(disk) => disk,
-        _ => 0,
-    };
+    let disk = diagnosis.reason.and_then(Reason::disk).unwrap_or(0);
     Diagnosis {
         result: number(diagnosis.outcome()),
-        reason: diagnosis.reason.number(),
+        reason: diagnosis.reason.map_or(0, Reason::number),
         disk: u8::try_from(disk).expect("a cabinet has at most 8 disks"),
         set: diagnosis.set,
     }
