@@ -1,9 +1,10 @@
 // Whether a set is a candidate of a stage.
 ghost use mathlib.Core.Path.{_≡_};
 ghost use Prim.Native.Nat.{_≤_};
-ghost use Rattle.protocol.specs.Loops.{every, some};
+ghost use Rattle.protocol.specs.Loops.{some};
 ghost use Rattle.protocol.specs.States.{labelAt};
-ghost use Rattle.protocol.specs.Naming.{backs, proposes, candidate};
+ghost use Rattle.protocol.specs.Naming.{proposes, candidate};
+ghost use Rattle.protocol.specs.Diagnosis.{dissenters};
 ghost use Rattle.finder.specs.Stages.{stageOf};
 use crate::Stage;
 use crate::stages::backs;
@@ -12,17 +13,19 @@ use label::Label;
 use sets::DISKS;
 use sets::Mask;
 
-fn all_back(stage: Stage, disks: usize, labels: [Label; DISKS], x: Mask) -> bool
+// The members that disagree with what the stage asks of each.
+pub(crate) fn dissenters(stage: Stage, disks: usize, labels: [Label; DISKS], x: Mask) -> Mask
     requires { do ⌜ disks ≤ (← ⟦DISKS⟧) ⌝ }
-    ensures { λ r. ⌜ r ≡ every disks x (λ d. backs (stageOf stage) (labelAt labels d) x) ⌝ }
+    ensures { λ r. ⌜ r ≡ dissenters (stageOf stage) disks labels x ⌝ }
 {
-    let mut all = true;
+    let mut set = 0;
     let mut d = 0;
     while d < disks {
-        all = all & (!sets::has(x, d) | backs(stage, labels[d], x));
+        let dissents = sets::has(x, d) & !backs(stage, labels[d], x);
+        set = sets::union(set, sets::singleton_if(dissents, d));
         d += 1;
     }
-    all
+    set
 }
 
 pub(crate) fn some_propose(stage: Stage, disks: usize, labels: [Label; DISKS], x: Mask) -> bool
@@ -55,5 +58,5 @@ pub(crate) fn candidate(
     if !sets::subset(x, online) {
         return false;
     }
-    all_back(stage, disks, labels, x) & some_propose(stage, disks, labels, x)
+    (dissenters(stage, disks, labels, x) == 0) & some_propose(stage, disks, labels, x)
 }

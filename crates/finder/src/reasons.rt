@@ -3,30 +3,15 @@ ghost use mathlib.Core.Path.{_≡_};
 ghost use mathlib.Core.Bool.{cond};
 ghost use Prim.Native.Nat.{_≤_};
 ghost use Rattle.protocol.specs.declared.Reason.the-variants.{NoneProposes, IsCandidate};
-ghost use Rattle.protocol.specs.Diagnosis.{dissenters, reasonFor};
+ghost use Rattle.protocol.specs.Diagnosis.{reasonFor};
 ghost use Rattle.finder.specs.Stages.{stageOf};
 use crate::Stage;
+use crate::candidates::dissenters;
 use crate::candidates::some_propose;
-use crate::stages::backs;
 use label::Label;
 use protocol::Reason;
 use sets::DISKS;
 use sets::Mask;
-
-// The members that disagree with what the stage asks of each.
-fn dissenters(stage: Stage, disks: usize, labels: [Label; DISKS], x: Mask) -> Mask
-    requires { do ⌜ disks ≤ (← ⟦DISKS⟧) ⌝ }
-    ensures { λ r. ⌜ r ≡ dissenters (stageOf stage) disks labels x ⌝ }
-{
-    let mut set = 0;
-    let mut d = 0;
-    while d < disks {
-        let dissents = sets::has(x, d) & !backs(stage, labels[d], x);
-        set = sets::union(set, sets::singleton_if(dissents, d));
-        d += 1;
-    }
-    set
-}
 
 // The last two reasons: of a set that lacks nothing but, it may be, a proposal.
 fn candidate_if(proposed: bool) -> Reason

@@ -6,6 +6,7 @@ use lib.Dec.{ltb}
 use borrow.Author.Tests.{lt-ltb, not-true, not-false}
 use borrow.Author.Needs.{needs}
 use Rattle.protocol.specs.Naming.{candidate}
+use Rattle.protocol.proofs.Reasons.{no-dissenters}
 use Rattle.finder.proofs.candidates.candidate.Statement.{statement}
 use Rattle.finder.proofs.candidates.candidate.Tie as tie
 
@@ -26,7 +27,7 @@ returns-3 c =
     let start = asked .before .before in
     let filled = lt-ltb 0 (start .args .x) (omega (arith, asked .before .if1 .left)) in
     let inside = sym (asked .subset .ensures) ∙ not-false _ (c .before .before .if2 .left) in
-    rw (filled, inside, c .before .all-back .ensures, c .some-propose .ensures)
+    rw (filled, inside, c .before .dissenters .ensures, no-dissenters, c .some-propose .ensures)
 
 pub candidate-spec : {M : Type 1} → statement M
 candidate-spec =

@@ -1,4 +1,4 @@
--- `finder::reasons::dissenters` meets its contract. Assumes nothing.
+-- `finder::candidates::dissenters` meets its contract. Assumes nothing.
 use mathlib.Core.Path.{_≡_, refl}
 use Prim.Native.Nat.{_-_, _≤_}
 use native.Mathlib.Numerals.{add-one}
@@ -7,8 +7,8 @@ use borrow.Author.Needs.{needs}
 use Rattle.protocol.specs.Loops.{unionBelow, disksWhere}
 use Rattle.protocol.specs.Diagnosis.{dissenters}
 use Rattle.finder.specs.Stages.{stageOf}
-use Rattle.finder.proofs.reasons.dissenters.Statement.{statement}
-use Rattle.finder.proofs.reasons.dissenters.Tie as tie
+use Rattle.finder.proofs.candidates.dissenters.Statement.{statement}
+use Rattle.finder.proofs.candidates.dissenters.Tie as tie
 
 abbrev Inv-loop : tie.InvT-loop
 Inv-loop stage disks x labels set₀ d₀ set d = (d ≤ disks) × (set ≡ dissenters (stageOf stage) d labels x)
