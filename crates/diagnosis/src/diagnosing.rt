@@ -27,7 +27,7 @@ fn own_set(l: Label) -> Mask
     }
 }
 
-// Of a number that is refused, the third.
+// The stage of a number; of one that is refused, the third.
 fn stage_numbered(number: usize) -> Stage
     ensures { λ r. ⌜ stageOf r ≡ stageNumbered number ⌝ }
 {

@@ -123,7 +123,7 @@ reach-passed s d e =
     let no = none-by (reachRefusals s d) refl e in
     record { fit = sound-if s (no 1); known = ltb-true _ _ (not-false _ (no 8)) }
 
--- what a diagnosis knows of the state and the disk, a lost or a returned disk's call knows too
+-- the same of a diagnosis
 pub diagnose-passed : (s : State) (stage d : ℕ) → firstOf (diagnoseRefusals s stage d) ≡ 0 → ReachPassed s d
 unfolding diagnoseRefusals
 diagnose-passed s stage d e =
