@@ -8,8 +8,8 @@ use native.Mathlib.Omega.{arith}
 use lib.Dec.{eqb, ltb}
 use borrow.Author.Tests.{eqb-true, eq-eqb, ltb-true, ltb-false, lt-ltb, not-true, not-false}
 use Rattle.sets.specs.Sets.{has, below, lowest}
-use Rattle.sets.proofs.Tests.{Test, passes, fails, test, clash, same-test, and-parts, positive}
-use Rattle.sets.proofs.Membership.{has-empty, same-members}
+use Rattle.sets.proofs.Tests.{Test, passes, fails, test, clash, and-parts, positive}
+use Rattle.sets.proofs.Membership.{has-empty}
 use Rattle.sets.proofs.Operations.{has-difference}
 use Rattle.sets.proofs.Bounds.{below-members}
 use Rattle.sets.proofs.LowestMember.{lowest-has, lowest-least}
@@ -17,12 +17,11 @@ use Rattle.label.specs.declared.Label.{Label}
 use Rattle.protocol.specs.declared.Reason.{Reason}
 use Rattle.protocol.specs.declared.Reason.the-variants.{NoReason, Empty, OutOfReach}
 use Rattle.protocol.specs.declared.Reason.the-variants.{Disagrees, NoneProposes, IsCandidate}
-use Rattle.protocol.specs.Loops.{every, some, disksWhere}
+use Rattle.protocol.specs.Loops.{every, some}
 use Rattle.protocol.specs.States.{labelAt}
 use Rattle.protocol.specs.Naming.{Stage, first, second, third, Backs, Proposes, Candidate, backs, proposes}
 use Rattle.protocol.specs.Diagnosis.{reasonNumber, Says, unreachable, dissenters, reasonFor, ReasonRight}
-use Rattle.protocol.proofs.Loops.{or-last, every-at, every-of, some-member, some-is, some-not}
-use Rattle.protocol.proofs.Loops.{has-disks-where}
+use Rattle.protocol.proofs.Loops.{or-last, some-member, some-is, some-not, has-disks-where, none-failing}
 use Rattle.protocol.proofs.Naming.{backs-if, if-backs, proposes-if}
 
 -- ---- the lowest member that fails a test
@@ -39,30 +38,13 @@ module _ (x failing : ℕ) (p : ℕ → Bool) (is : (d : ℕ) → has failing d 
   none-fails : failing ≡ 0 → (d : ℕ) → has x d ≡ true → p d ≡ true
   none-fails e d m = not-false _ (sym (is d ∙ rw m) ∙ rw e (has-empty d))
 
+-- ---- the reason
+
 -- none disagrees where every member backs the set
 pub no-dissenters : (stage : Stage) (n : ℕ) (labels : List Label) (x : ℕ)
     → eqb (dissenters stage n labels x) 0 ≡ every n x (λ d. backs stage (labelAt labels d) x)
 unfolding dissenters
-no-dissenters stage n labels x =
-    same-test (eqb (disksWhere n against) 0) (every n x backsIt)
-    (λ e. every-of n x backsIt (λ d l m. not-false _ (sym (has-disks-where n against d ∙ rw (lt-ltb d n l, m))
-    ∙ rw (eqb-true (disksWhere n against) 0 e) (has-empty d))))
-    (λ e. eq-eqb _ 0 (same-members _ 0 (λ d. has-disks-where n against d ∙ go e d (test (ltb d n)) (test (has x d))
-    ∙ sym (has-empty d))))
-  where
-    backsIt : ℕ → Bool
-    backsIt d = backs stage (labelAt labels d) x
-
-    against : ℕ → Bool
-    against d = has x d && not (backsIt d)
-
-    go : every n x backsIt ≡ true → (d : ℕ) → Test (ltb d n) → Test (has x d)
-        → (ltb d n && (has x d && not (backsIt d))) ≡ false
-    go e d (fails l) m = rw l
-    go e d (passes l) (fails m) = rw (l, m)
-    go e d (passes l) (passes m) = rw (l, m, every-at n x backsIt e d (ltb-true d n l) m)
-
--- ---- the reason
+no-dissenters stage n labels x = none-failing n x (λ d. backs stage (labelAt labels d) x)
 
 module _ (stage : Stage) (n online : ℕ) (labels : List Label) (x : ℕ) (known : below x n ≡ true) where
   abbrev backsIt : ℕ → Bool

@@ -152,7 +152,7 @@ pub record SetRight (online : ℕ) (labels : List Label) (d set : ℕ) : Type 0 
   pub otherwise : ((x : ℕ) → Names online labels (one x) → has x d ≡ true) → set ≡ 0
 
 -- of every sound, stopped state, every stage and every disk that there is
-pub record Diagnosed (s : State) (stage : Stage) (d : ℕ) (given : Diagnosis) : Type 0 where
+pub record DiagnosisRight (s : State) (stage : Stage) (d : ℕ) (given : Diagnosis) : Type 0 where
   pub done : given .refusal ≡ 0
   -- the disk's own set, and the reason of it
   pub own : ℕ
@@ -162,7 +162,7 @@ pub record Diagnosed (s : State) (stage : Stage) (d : ℕ) (given : Diagnosis) :
 
 abbrev pub DiagnosedRight : Type 0
 DiagnosedRight = (s : State) (stage : Stage) (d : ℕ) → Sound s → s .power ≡ Stopped → d < s .disks
-    → Diagnosed s stage d (diagnosis s (stageNumber stage) d)
+    → DiagnosisRight s stage d (diagnosis s (stageNumber stage) d)
 
 -- What the mechanic relies on: where a restart now gives 13, whichever disk and stage he asks about, he is not told 'a
 -- candidate', nor that a proposal is all that it lacks: then every member's C is the set, and stage 3 has it.
