@@ -1,5 +1,5 @@
-/* Document 01's session, then clean, save, assemble, diagnose and labels: each function of the header, and each field of
-   its structs. */
+/* Document 01's session, then clean, a read that is cut as it moves, save, assemble, diagnose and labels: each function
+   of the header, and each field of its structs. */
 #include "cabinet.h"
 #include <stdio.h>
 #include <string.h>
@@ -9,6 +9,15 @@ static struct cabinet_state told(struct cabinet_answer answer)
 {
     printf("%d %d %d %d\n", answer.refusal, answer.stores, answer.state.current, answer.state.online);
     return answer.state;
+}
+
+/* Prints what a read found. */
+static void block(const uint8_t *bytes)
+{
+    size_t sevens = 0;
+    while (sevens < CABINET_BLOCK_SIZE && bytes[sevens] == 7)
+        sevens++;
+    printf("%s\n", sevens == CABINET_BLOCK_SIZE ? "sevens" : "other bytes");
 }
 
 /* Document 01's H11: disk 1 of 3, committed to disks 0 and 1, region 0 dirty. */
@@ -44,13 +53,15 @@ int main(void)
     s = told(cabinet_restart(s, area, sizeof area, 99));
     s = told(cabinet_attach(s, 2));
     s = told(cabinet_join(s, area, sizeof area, 2, 99));
-    s = told(cabinet_read(s, area, sizeof area, 0, found, sizeof found));
-    printf("%s\n", memcmp(found, sevens, sizeof found) == 0 ? "sevens" : "other bytes");
+    s = told(cabinet_read(s, area, sizeof area, 0, found, sizeof found, 99));
+    block(found);
 
     s = told(cabinet_write(s, area, sizeof area, 7, sevens, sizeof sevens, 99));
     s = told(cabinet_detach(s, 0));
     s = told(cabinet_clean(s, 99));
-    s = told(cabinet_write(s, area, sizeof area, 7, sevens, sizeof sevens, 3));
+    /* Block 1 has zeros: the output keeps the sevens. */
+    s = told(cabinet_read(s, area, sizeof area, 1, found, sizeof found, 3));
+    block(found);
     s = told(cabinet_save(s, slots, sizeof slots));
     s = told(cabinet_assemble(3, 8, 5, slots, sizeof slots));
     printf("%d disks of %d blocks\n", s.disks, s.blocks);

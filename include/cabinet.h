@@ -130,18 +130,20 @@ enum cabinet_reason {
    Refuses: 4, 5, 2. */
 struct cabinet_answer cabinet_format(size_t disks, size_t blocks, uint8_t *area, size_t area_length);
 
-/* Copies the block from the lowest current disk that is online to the output; 0 stores, and the state as given.
-   Refuses: 1, 2, 3, 6, 9, 12. */
+/* Copies the block from the lowest current disk that is online to the output. If some current disk is not online, it
+   first moves to those that are, 2 stores a disk: they alone are current then. Else it makes no store, and a budget of
+   0 will do. If the power is lost the output stays as it was.
+   Refuses: 1, 2, 3, 6, 9, 12, 15. */
 struct cabinet_answer cabinet_read(struct cabinet_state state, const uint8_t *area, size_t area_length, size_t block,
-                                   uint8_t *output, size_t output_length);
+                                   uint8_t *output, size_t output_length, uint16_t budget);
 
-/* Marks the block's region dirty, then stores the data as the block, on each current disk that is online: at most 4
-   stores a disk. If some current disk is not online, it first moves to those that are: they alone are current then.
+/* Moves as a read does, then marks the block's region dirty, then stores the data as the block, on each current disk
+   that is online: at most 4 stores a disk.
    Refuses: 1, 2, 3, 6, 9, 12, 15. */
 struct cabinet_answer cabinet_write(struct cabinet_state state, uint8_t *area, size_t area_length, size_t block,
                                     const uint8_t *data, size_t data_length, uint16_t budget);
 
-/* Makes the disk current: moves as a write does, copies all blocks to the disk, then moves to the set with the disk.
+/* Makes the disk current: moves as a read does, copies all blocks to the disk, then moves to the set with the disk.
    Refuses: 1, 2, 6, 8, 11, 10, 12, 15: a current disk gives 11, online or not. */
 struct cabinet_answer cabinet_join(struct cabinet_state state, uint8_t *area, size_t area_length, size_t disk,
                                    uint16_t budget);

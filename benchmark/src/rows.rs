@@ -81,6 +81,7 @@ pub fn rows() -> Vec<Row> {
     vec![
         row("format (fresh)", Call::Format, fresh()),
         row("read", Call::Read, fresh()),
+        row("read that first moves", Call::Read, moved),
         row("write to a clean region", Call::Write, fresh()),
         row("write to a dirty region", Call::Write, dirty(fresh())),
         row("write that first moves", Call::Write, moved),

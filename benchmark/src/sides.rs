@@ -36,7 +36,7 @@ impl Yielded {
 /// timed. A state lies in memory, as a caller keeps it, and each side takes it from there in its own way.
 pub struct Side<S, A, D> {
     format: fn(usize, usize, &mut [u8]) -> A,
-    read: fn(&S, &[u8], usize, &mut [u8]) -> A,
+    read: fn(&S, &[u8], usize, &mut [u8], u16) -> A,
     write: fn(&S, &mut [u8], usize, &[u8], u16) -> A,
     join: fn(&S, &mut [u8], usize, u16) -> A,
     clean: fn(&S, u16) -> A,
@@ -55,7 +55,7 @@ pub struct Side<S, A, D> {
 /// The proved product.
 pub const PROVED: Side<cabinet::State, cabinet::Answer, cabinet::Diagnosis> = Side {
     format: cabinet::State::format,
-    read: |state, area, block, output| state.read(area, block, output),
+    read: |state, area, block, output, supply| state.read(area, block, output, supply),
     write: |state, area, block, data, supply| state.write(area, block, data, supply),
     join: |state, area, disk, supply| state.join(area, disk, supply),
     clean: |state, supply| state.clean(supply),
@@ -74,7 +74,7 @@ pub const PROVED: Side<cabinet::State, cabinet::Answer, cabinet::Diagnosis> = Si
 /// Plain Rust.
 pub const PLAIN: Side<plain::State, plain::Answer, plain::Diagnosis> = Side {
     format: plain::fresh,
-    read: |&state, area, block, output| plain::read(state, area, block, output),
+    read: |&state, area, block, output, supply| plain::read(state, area, block, output, supply),
     write: |&state, area, block, data, supply| plain::write(state, area, block, data, supply),
     join: |&state, area, disk, supply| plain::join(state, area, disk, supply),
     clean: |&state, supply| plain::quiet(state, supply),
@@ -112,7 +112,7 @@ impl<S, A, D> Side<S, A, D> {
         let (time, answer) = match row.call {
             Call::Format => repeat(calls, || (side.format)(disks(), blocks(), black_box(area))),
             Call::Read => repeat(calls, || {
-                (side.read)(state(), black_box(area), block(), black_box(data))
+                (side.read)(state(), black_box(area), block(), black_box(data), supply())
             }),
             Call::Write => repeat(calls, || {
                 (side.write)(state(), black_box(area), block(), black_box(data), supply())

@@ -7,7 +7,7 @@ use reference::plain::{Label, State};
 pub enum Call {
     /// Fresh: n, b; the area.
     Fresh,
-    /// Read: the state, the area, k; the output.
+    /// Read: the state, the area, k, the supply; the output.
     Read,
     /// Write: the state, the area, k, the supply; the data.
     Write,
@@ -74,7 +74,10 @@ impl Call {
 
     /// Whether it "changes disks" and so takes a supply.
     pub fn takes_supply(self) -> bool {
-        matches!(self, Call::Write | Call::Join | Call::Quiet | Call::Restart)
+        matches!(
+            self,
+            Call::Read | Call::Write | Call::Join | Call::Quiet | Call::Restart
+        )
     }
 }
 

@@ -20,7 +20,7 @@ const OFTEN: usize = 150;
 /// and no label is longer.
 const RESULTS: [(Call, &[u8]); 14] = [
     (Call::Fresh, &[0, 2, 4, 5]),
-    (Call::Read, &[0, 1, 2, 3, 6, 9, 12]),
+    (Call::Read, &[0, 1, 2, 3, 6, 9, 12, 15]),
     (Call::Write, &[0, 1, 2, 3, 6, 9, 12, 15]),
     (Call::Join, &[0, 1, 2, 6, 8, 10, 11, 12, 15]),
     (Call::Quiet, &[0, 1, 6, 12, 15]),

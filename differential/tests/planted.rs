@@ -19,6 +19,10 @@ const HIDDEN: [Mistake; 5] = [
     Mistake::WriteBoundThree,
 ];
 
+/// The mistake whose answers are right in every history: a member of G that was lost still has the right blocks. It is
+/// seen only where disks out of reach may hold anything.
+const RIGHT_IN_HISTORIES: Mistake = Mistake::ReadFromLostDisk;
+
 /// The first difference between the product and another implementation in cases of the source.
 fn found(other: &dyn Implementation, mut source: impl Source) -> Option<Box<Comparison>> {
     run(&[&Proved, other], &mut source, 60_000).err()
@@ -36,8 +40,8 @@ fn arbitrary_cases_find_each_mistake_of_the_reference() {
 fn histories_find_each_mistake_that_a_history_reaches() {
     for (mistake, name) in Mistake::ALL {
         let difference = found(&Reference(Rules::with(mistake)), Histories::new(Random::new(5)));
-        let reached = !HIDDEN.contains(&mistake) && !IN_NO_HISTORY.contains(&mistake);
-        assert_eq!(difference.is_some(), reached, "{name}");
+        let unseen = [&HIDDEN[..], &IN_NO_HISTORY, &[RIGHT_IN_HISTORIES]].concat();
+        assert_eq!(difference.is_some(), !unseen.contains(&mistake), "{name}");
     }
 }
 

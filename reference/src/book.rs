@@ -4,7 +4,6 @@ use crate::cabinet::{Answer, Cabinet};
 use crate::call::Call;
 use crate::lists;
 use crate::mistakes::{Mistake, Rules};
-use crate::refusal::{DONE, SUPPLY_ENDED};
 use crate::state::{State, BLOCK};
 use crate::store::Store;
 
@@ -41,11 +40,12 @@ impl Book {
         &self.blocks[block * BLOCK..][..BLOCK]
     }
 
-    /// Feeds a call to the book. If it is a write that counts, "then block k of the book becomes its data. The other
-    /// seven calls leave the book as it is", and so does a diagnosis, which carries out no write.
-    pub fn take(&mut self, call: &Call) -> Taken {
+    /// Feeds a call to the book, with an output like the one in the list: a read refuses one of a wrong length, and so
+    /// does not move. If it is a write that counts, "then block k of the book becomes its data. The other seven calls
+    /// leave the book as it is", and so does a diagnosis, which carries out no write.
+    pub fn take(&mut self, call: &Call, output: &mut [u8]) -> Taken {
         let before = self.cabinet.state;
-        let answer = self.cabinet.take(call, &mut [0; BLOCK]);
+        let answer = self.cabinet.take(call, output);
         let counted = match call {
             Call::Write { block, data, .. } => self.counts(&before, *block, data, answer),
             _ => false,
@@ -58,7 +58,7 @@ impl Book {
 
     /// "A write of block k counts when the stores so made include that of block k on the lowest member of its L."
     fn counts(&self, before: &State, block: u16, data: &[u8], answer: Answer) -> bool {
-        if ![DONE, SUPPLY_ENDED].contains(&answer.result) {
+        if !answer.is_carried_out() {
             return false;
         }
         let rules = self.cabinet.rules;

@@ -10,6 +10,7 @@ use crate::refusal::{self, *};
 use crate::sets::DiskSet;
 use crate::state::{Power, State, BLOCK};
 use crate::store::{self, Store};
+use std::ops::Range;
 
 /// What a call gives: its result, and "the number in the list that were made".
 #[derive(Clone, Copy, Debug, PartialEq, Eq)]
@@ -30,6 +31,11 @@ impl Answer {
     /// "A refusal gives its number, a store count of 0."
     pub fn refused(result: u8) -> Answer {
         Answer { result, stores: 0 }
+    }
+
+    /// Whether the call made stores of its list: all of them, or with 15 the first ones.
+    pub fn is_carried_out(self) -> bool {
+        [DONE, SUPPLY_ENDED].contains(&self.result)
     }
 
     /// The answer of a call that may have been refused.
@@ -104,7 +110,7 @@ impl Cabinet {
     /// Makes a call of the list.
     pub fn take(&mut self, call: &Call, output: &mut [u8]) -> Answer {
         match call {
-            Call::Read { block } => self.read(*block, output),
+            Call::Read { block, supply } => self.read(*block, output, *supply),
             Call::Write { block, data, supply } => self.write(*block, data, *supply),
             Call::Join { disk, supply } => self.join(*disk, *supply),
             Call::Quiet { supply } => self.quiet(*supply),
@@ -116,46 +122,64 @@ impl Cabinet {
         }
     }
 
-    /// "Read copies block k from the lowest member of L."
-    pub fn read(&self, block: u16, output: &mut [u8]) -> Answer {
-        Answer::of(self.reading(block, output.len()).map(|range| {
-            output.copy_from_slice(&self.area[range]);
-            Answer::DONE
+    /// Read: 1, 2, 3, 6, 9, 12, 15. "A read that is cut leaves the output buffer unchanged" (request 2.3).
+    pub fn read(&mut self, block: u16, output: &mut [u8], supply: u16) -> Answer {
+        Answer::of(self.lowest_live(block, output.len()).map(|lowest| {
+            let range = self.read_range(lowest, block as u8);
+            let list = lists::read(self.rules, &self.state);
+            let answer = self.carry_out(&list, supply, self.set_after_read());
+            if answer.result == DONE || self.rules.makes(Mistake::ReadFillsThenCut) {
+                output.copy_from_slice(&self.area[range]);
+            }
+            match answer.result {
+                DONE if self.rules.makes(Mistake::ReadCountsNoStores) => Answer::DONE,
+                _ => answer,
+            }
         }))
     }
 
-    /// Read: 1, 2, 3, 6, 9, 12. Otherwise the place of the block that it copies.
-    fn reading(&self, block: u16, output: usize) -> Result<std::ops::Range<usize>, u8> {
-        refusal::first(&[
-            (UNSOUND, self.is_unsound()),
-            (WRONG_LENGTH, self.area_misfits()),
-            (NOT_A_BLOCK, output != BLOCK),
-            (STOPPED, self.state.is_stopped()),
-            (NO_SUCH_BLOCK, block >= self.state.blocks.into()),
-        ])?;
-        let lowest = self.state.live().lowest().ok_or(NONE_LIVE)?;
+    /// "Read copies block k from the lowest member of L": the place of that block.
+    fn read_range(&self, lowest: u8, block: u8) -> Range<usize> {
+        let disk = match self.state.current().lowest() {
+            Some(lowest_current) if self.rules.makes(Mistake::ReadFromLostDisk) => lowest_current,
+            _ => lowest,
+        };
         let block = if self.rules.makes(Mistake::ReadOfAnotherBlock) {
             0
         } else {
-            block as u8
+            block
         };
-        Ok(self.state.block_range(lowest, block))
+        self.state.block_range(disk, block)
+    }
+
+    /// The G that a read leaves: L, whether it had to move there or not.
+    fn set_after_read(&self) -> DiskSet {
+        let stays = [Mistake::ReadKeepsSet, Mistake::ReadStays];
+        if stays.iter().any(|mistake| self.rules.makes(*mistake)) {
+            self.state.current()
+        } else {
+            self.state.live()
+        }
     }
 
     /// Write: 1, 2, 3, 6, 9, 12, 15.
     pub fn write(&mut self, block: u16, data: &[u8], supply: u16) -> Answer {
-        let ready = refusal::first(&[
-            (UNSOUND, self.is_unsound()),
-            (WRONG_LENGTH, self.area_misfits()),
-            (NOT_A_BLOCK, data.len() != BLOCK),
-            (STOPPED, self.state.is_stopped()),
-            (NO_SUCH_BLOCK, block >= self.state.blocks.into()),
-            (NONE_LIVE, self.state.live().is_empty()),
-        ]);
-        Answer::of(ready.map(|()| {
+        Answer::of(self.lowest_live(block, data.len()).map(|_lowest| {
             let list = lists::write(self.rules, &self.state, block as u8, data);
             self.carry_out(&list, supply, self.state.live())
         }))
+    }
+
+    /// Read and write, with a buffer of this length: 1, 2, 3, 6, 9, 12. Otherwise the lowest member of L.
+    fn lowest_live(&self, block: u16, buffer: usize) -> Result<u8, u8> {
+        refusal::first(&[
+            (UNSOUND, self.is_unsound()),
+            (WRONG_LENGTH, self.area_misfits()),
+            (NOT_A_BLOCK, buffer != BLOCK),
+            (STOPPED, self.state.is_stopped()),
+            (NO_SUCH_BLOCK, block >= self.state.blocks.into()),
+        ])?;
+        self.state.live().lowest().ok_or(NONE_LIVE)
     }
 
     /// Join: 1, 2, 6, 8, 11, 10, 12, 15: "membership is tested before reach in a join" (request 2.1).

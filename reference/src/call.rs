@@ -4,7 +4,7 @@
 #[derive(Clone, Debug, PartialEq, Eq)]
 pub enum Call {
     /// Read block k.
-    Read { block: u16 },
+    Read { block: u16, supply: u16 },
     /// Write block k.
     Write { block: u16, data: Vec<u8>, supply: u16 },
     /// Join disk d.
@@ -28,7 +28,7 @@ impl Call {
     /// a diagnosis, and would answer this line with 99.
     pub fn line(&self) -> String {
         match self {
-            Call::Read { block } => format!("g {block}"),
+            Call::Read { block, supply } => format!("g {block} {supply}"),
             Call::Write { block, data, supply } => format!("w {block} {} {supply}", data.first().unwrap_or(&0)),
             Call::Join { disk, supply } => format!("j {disk} {supply}"),
             Call::Quiet { supply } => format!("q {supply}"),

@@ -9,10 +9,10 @@ use crate::lists;
 use crate::mistakes::{Mistake, Rules};
 use crate::naming::{self, Found};
 use crate::refusal::*;
-use crate::sets::DiskSet;
 use crate::slots::{self, SLOT};
 use crate::state::{Power, State};
-use crate::store::Store;
+use crate::store::{self, Store};
+use std::borrow::Cow;
 
 /// One claim.
 #[derive(Clone, Copy, Debug, PartialEq, Eq)]
@@ -29,6 +29,14 @@ pub enum Claim {
     NoneUnsound,
     /// Reads yield the book.
     ReadsBook,
+    /// Reads make the stores that they report.
+    ReadStores,
+    /// Reads that are not done leave the output.
+    ReadKeepsOutput,
+    /// Reads yield nothing of a disk out of reach.
+    ReadWithinReach,
+    /// Reads notice a loss.
+    ReadMoves,
     /// Acknowledged writes count.
     AcknowledgedCounts,
     /// Cut writes count from the store on the lowest member of L on.
@@ -59,15 +67,17 @@ pub enum Claim {
 
 /// A call that was made: what was before it and what is after it.
 pub struct Event<'a> {
-    /// The state before.
-    pub before: &'a State,
+    /// The cabinet before.
+    pub before: &'a Cabinet,
     /// The call.
     pub call: &'a Call,
+    /// The output that it was given, as it was before the call.
+    pub given: &'a [u8],
     /// Its answer.
     pub answer: Answer,
     /// What it told, if it is a diagnosis.
     pub told: Option<Diagnosis>,
-    /// The output that it was given, as it is after the call.
+    /// That output after the call, if it is a read.
     pub output: &'a [u8],
     /// The cabinet after.
     pub after: &'a Cabinet,
@@ -88,12 +98,16 @@ impl Claim {
     ];
 
     /// The claims about each call that is made.
-    pub const OF_CALLS: [Claim; 10] = [
+    pub const OF_CALLS: [Claim; 14] = [
         Claim::RestartedBlocks,
         Claim::NotSeveral,
         Claim::RestartFinds,
         Claim::NoneUnsound,
         Claim::ReadsBook,
+        Claim::ReadStores,
+        Claim::ReadKeepsOutput,
+        Claim::ReadWithinReach,
+        Claim::ReadMoves,
         Claim::AcknowledgedCounts,
         Claim::CutCounts,
         Claim::WriteBound,
@@ -126,6 +140,10 @@ impl Claim {
             Claim::Sound => "the state is sound after each call",
             Claim::NoneUnsound => "no call gives 1",
             Claim::ReadsBook => "a read that gives 0 yields the book's block",
+            Claim::ReadStores => "the disks after a read are those of exactly so many stores of its list as it reports",
+            Claim::ReadKeepsOutput => "a read that does not give 0 leaves the output as it was",
+            Claim::ReadWithinReach => "what a read yields does not depend on what disks out of reach hold",
+            Claim::ReadMoves => "after a read that gives 0 every disk of G is in reach",
             Claim::AcknowledgedCounts => "a write that gives 0 counts in the book",
             Claim::CutCounts => "a cut write counts exactly when its stores reach that on the lowest member of L",
             Claim::WriteBound => {
@@ -172,25 +190,32 @@ impl Claim {
             (Claim::NotSeveral, Call::Restart { .. }) => result != SEVERAL_CANDIDATES,
             (Claim::RestartFinds, Call::Restart { supply }) => restart_finds(event, *supply),
             (Claim::NoneUnsound, _) => result != UNSOUND,
-            (Claim::ReadsBook, Call::Read { block }) => {
+            (Claim::ReadsBook, Call::Read { block, .. }) => {
                 result != DONE || event.output == event.book.block(*block as usize)
+            }
+            (Claim::ReadStores, Call::Read { .. }) => disks_are_of_reported_stores(event),
+            (Claim::ReadKeepsOutput, Call::Read { .. }) => result == DONE || event.output == event.given,
+            (Claim::ReadWithinReach, Call::Read { .. }) => yields_nothing_of_lost_disks(event),
+            (Claim::ReadMoves, Call::Read { .. }) => {
+                let after = &event.after.state;
+                result != DONE || after.current().inside(after.reach)
             }
             (Claim::AcknowledgedCounts, Call::Write { .. }) => result != DONE || event.counted,
             (Claim::CutCounts, Call::Write { block, .. }) => {
                 result != SUPPLY_ENDED || event.counted == (event.answer.stores >= source_store(event, *block))
             }
             (Claim::WriteBound, Call::Write { .. }) => {
-                event.answer.stores <= write_bound(event.after.rules) * event.before.live().size()
+                event.answer.stores <= write_bound(event.after.rules) * event.before.state.live().size()
             }
             (Claim::RefusedUnchanged, _) => {
                 let may_change = !matches!(event.call, Call::Diagnose { .. });
-                let is_carried = may_change && [DONE, SUPPLY_ENDED].contains(&result);
-                is_carried || event.answer.stores == 0 && event.after.state == *event.before
+                let is_carried = may_change && event.answer.is_carried_out();
+                is_carried || event.answer.stores == 0 && event.after.state == event.before.state
             }
             (Claim::MembersTold, Call::Join { disk, .. }) => result == ALREADY_MEMBER || !was_current(event, *disk),
             (claim, Call::Diagnose { stage, disk }) => {
                 let (rules, asked) = (event.after.rules, (*stage, *disk));
-                let holds = |told| claim.holds_of_diagnosis(rules, event.before, asked, told);
+                let holds = |told| claim.holds_of_diagnosis(rules, &event.before.state, asked, told);
                 event.told.is_none_or(holds)
             }
             _ => true,
@@ -219,6 +244,42 @@ impl Claim {
     }
 }
 
+/// Whether the labels and the disk area are those of exactly so many stores of a read's list as it reports. A refused
+/// read makes none. The disks before are copied only if there is a store to make.
+fn disks_are_of_reported_stores(event: &Event) -> bool {
+    let rules = event.before.rules;
+    let list = if event.answer.is_carried_out() {
+        lists::read(rules, &event.before.state)
+    } else {
+        Vec::new()
+    };
+    let Some(made) = list.get(..event.answer.stores) else {
+        return false;
+    };
+    let mut disks = Cow::Borrowed(event.before);
+    for &one in made {
+        let Cabinet { state, area, .. } = disks.to_mut();
+        store::apply(rules, one, state, area);
+    }
+    disks.state.labels == event.after.state.labels && disks.area == event.after.area
+}
+
+/// Whether the same read of an area in which the blocks of every disk out of reach are different gives the same output.
+fn yields_nothing_of_lost_disks(event: &Event) -> bool {
+    let state = &event.before.state;
+    let lost = state.lost();
+    if lost.is_empty() {
+        return true;
+    }
+    let (mut other, mut output) = (event.before.clone(), event.given.to_vec());
+    for disk in lost.members() {
+        let part = &mut other.area[state.disk_range(disk)];
+        part.iter_mut().for_each(|byte| *byte = !*byte);
+    }
+    other.take(event.call, &mut output);
+    output == event.output
+}
+
 /// "A write makes at most 4 times as many stores as L has disks."
 fn write_bound(rules: Rules) -> usize {
     if rules.makes(Mistake::WriteBoundThree) {
@@ -230,29 +291,29 @@ fn write_bound(rules: Rules) -> usize {
 
 /// The place in a write's list, from 1, of the block store on the lowest member of L: it is the first block store.
 fn source_store(event: &Event, block: u16) -> usize {
-    let list = lists::write(event.after.rules, event.before, block as u8, &[]);
+    let list = lists::write(event.after.rules, &event.before.state, block as u8, &[]);
     let before = list.iter().take_while(|store| !matches!(store, Store::Block { .. }));
     before.count() + usize::from(!event.after.rules.makes(Mistake::CutWriteCountsEarly))
 }
 
 /// Whether the disk was in G before the call. A stopped cabinet has no G.
 fn was_current(event: &Event, disk: u16) -> bool {
-    event.before.current().members().any(|member| u16::from(member) == disk)
+    let mut current = event.before.state.current().members();
+    current.any(|member| u16::from(member) == disk)
 }
 
 /// "For each disk d of that G and each k below b, block k of d in the disk area equals block k of the book."
 fn named_disks_equal_book(event: &Event) -> bool {
-    let part = event.book.blocks.len();
-    let disk = |d: u8| &event.after.area[d as usize * part..][..part];
-    let mut named = event.after.state.current().members();
-    named.all(|d| disk(d) == event.book.blocks)
+    let Cabinet { state, area, .. } = event.after;
+    let mut named = state.current().members();
+    named.all(|d| area[state.disk_range(d)] == event.book.blocks)
 }
 
 /// "Each one of a stopped cabinet with all n disks in R finds a set, and gives 0 when its supply is at least the length
 /// of its list of stores."
 fn restart_finds(event: &Event, supply: u16) -> bool {
-    let (rules, before) = (event.after.rules, event.before);
-    if !before.is_stopped() || before.reach != DiskSet::below(before.disks) {
+    let (rules, before) = (event.after.rules, &event.before.state);
+    if !before.is_stopped() || !before.lost().is_empty() {
         return true;
     }
     let Found::One(set) = naming::named(rules, &before.labels, before.reach) else {

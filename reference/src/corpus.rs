@@ -18,9 +18,11 @@ pub fn input() -> Vec<u8> {
     }
     corpus.refusals();
     corpus.refused_joins();
+    corpus.reads();
     corpus.lost_and_returned();
     corpus.fresh_in_and_out_of_range();
     corpus.bad_lines();
+    corpus.bad_reads();
     corpus.long_lines();
     corpus.random_histories();
     corpus.last_line();
@@ -66,28 +68,46 @@ impl Corpus {
     /// starts with these.
     fn before_the_first_fresh(&mut self) {
         let calls = [
-            "x 0", "r 0", "c", "w 0 7 99", "j 0 99", "q 99", "s 99", "g 0", "x 9", "w 70 1 0",
+            "x 0", "r 0", "c", "w 0 7 99", "j 0 99", "q 99", "s 99", "x 9", "w 70 1 0",
         ];
-        self.heading("calls before the first good f");
-        self.lines(&calls);
-        self.heading("refused f before the first good one");
-        self.lines(&["f 0 1", "f 9 0", "f 1 0", "f 1 65", "f 65535 65535", "f 0 0"]);
-        self.lines(&calls);
-        self.heading("bad lines before the first good f");
-        self.lines(&["", "f", "f 1", "f 1 1 1", "w 0 256 1", "z"]);
-        self.lines(&calls);
+        let reads = [
+            "g 0 99",
+            "g 0 0",
+            "g 0 65535",
+            "g 1 1",
+            "g 63 99",
+            "g 64 0",
+            "g 65535 99",
+        ];
+        let sections: [(&str, &[&str]); 3] = [
+            ("calls before the first good f", &[]),
+            (
+                "refused f before the first good one",
+                &["f 0 1", "f 9 0", "f 1 0", "f 1 65", "f 65535 65535", "f 0 0"],
+            ),
+            (
+                "bad lines before the first good f",
+                &["", "f", "f 1", "f 1 1 1", "w 0 256 1", "g 0", "z"],
+            ),
+        ];
+        for (heading, first) in sections {
+            self.heading(heading);
+            self.lines(first);
+            self.lines(&calls);
+            self.lines(&reads);
+        }
     }
 
     /// The paper's session, H13 and H14.
     fn papers_examples(&mut self) {
         self.heading("the paper's session");
-        let session = ["f 3 8", "x 2", "w 0 7 99", "c", "s 99", "r 2", "j 2 99", "g 0"];
+        let session = ["f 3 8", "x 2", "w 0 7 99", "c", "s 99", "r 2", "j 2 99", "g 0 99"];
         self.lines(&session);
         self.heading("H13");
-        self.lines(&["f 1 1", "w 0 5 1", "g 0", "s 99", "g 0"]);
-        self.lines(&["f 1 1", "w 0 5 2", "g 0", "c", "s 99", "g 0"]);
+        self.lines(&["f 1 1", "w 0 5 1", "g 0 99", "s 99", "g 0 99"]);
+        self.lines(&["f 1 1", "w 0 5 2", "g 0 99", "c", "s 99", "g 0 99"]);
         self.heading("H14");
-        self.lines(&["f 2 1", "w 0 5 3", "g 0", "s 99", "g 0", "x 0", "g 0"]);
+        self.lines(&["f 2 1", "w 0 5 3", "g 0 99", "s 99", "g 0 99", "x 0", "g 0 99"]);
     }
 
     /// Every call with a list, cut at every supply.
@@ -110,7 +130,7 @@ impl Corpus {
         if supply % 2 == 1 {
             self.line(format!("s {supply}"));
             self.line(format!("s {AMPLE}"));
-            self.line(format!("g {}", scene.shown[0]));
+            self.line(read(scene.shown[0]));
         }
         for disk in &scene.lost {
             self.line(format!("r {disk}"));
@@ -130,7 +150,7 @@ impl Corpus {
     fn show(&mut self, scene: &Scene) {
         for disk in 0..scene.disks {
             for block in &scene.shown {
-                self.line(format!("g {block}"));
+                self.line(read(*block));
             }
             if disk + 1 < scene.disks {
                 self.line(format!("x {disk}"));
@@ -143,23 +163,24 @@ impl Corpus {
         for n in [1, 3, 8] {
             self.heading(&format!("refusals while running, n = {n}"));
             self.line(format!("f {n} 9"));
-            self.lines(&["w 8 200 999", "g 9", "g 65535", "w 9 1 0", "w 65535 1 9"]);
+            self.lines(&["w 8 200 999", "g 9 0", "g 65535 99", "w 9 1 0", "w 65535 1 9"]);
             self.lines(&["j 0 0", "j 9 0", "j 65535 9", "s 0", "s 99", "x 8", "r 256", "x 65535"]);
-            self.lines(&["x 0", "j 0 9", "j 0 0", "g 8", "q 0", "r 0", "g 8"]);
+            self.lines(&["x 0", "j 0 9", "j 0 0", "g 8 99", "q 0", "r 0", "g 8 99", "s 99"]);
             self.heading("no member in reach");
             for disk in 0..n {
                 self.line(format!("x {disk}"));
             }
-            self.lines(&["g 0", "g 9", "w 0 1 9", "w 9 1 9", "q 0", "q 99", "j 0 9", "j 8 9"]);
+            self.lines(&["g 0 0", "g 0 9", "g 9 9", "w 0 1 9", "w 9 1 9", "q 0", "q 99"]);
+            self.lines(&["j 0 9", "j 8 9"]);
             self.line(format!("r {}", n - 1));
-            self.lines(&["g 8", "q 0", "q 1", "q 0"]);
+            self.lines(&["g 8 99", "q 0", "q 1", "q 0"]);
             self.heading("refusals while stopped");
-            self.lines(&["c", "c", "g 0", "g 99", "w 0 1 9", "w 99 1 9", "j 0 9", "j 99 9", "q 9"]);
-            self.lines(&["x 8", "r 8"]);
+            self.lines(&["c", "c", "g 0 0", "g 0 9", "g 99 9", "w 0 1 9", "w 99 1 9", "j 0 9"]);
+            self.lines(&["j 99 9", "q 9", "x 8", "r 8"]);
             for disk in 0..n {
                 self.line(format!("x {disk}"));
             }
-            self.lines(&["s 0", "s 99", "r 0", "s 0", "s 9999", "s 9999", "g 8"]);
+            self.lines(&["s 0", "s 99", "r 0", "s 0", "s 9999", "s 9999", "g 8 99"]);
         }
     }
 
@@ -168,7 +189,9 @@ impl Corpus {
         self.heading("joins of a member out of reach, and of no member with none live");
         self.lines(&["f 3 2", "x 2", "w 0 9 99", "j 2 99", "r 2", "j 2 3", "s 99", "j 2 99"]);
         self.lines(&["x 0", "j 0 99", "r 0", "j 0 99", "x 0", "w 1 8 99", "r 0", "x 1", "x 2"]);
-        self.lines(&["j 0 0", "j 0 99", "g 0", "r 2", "j 0 99", "g 0", "g 1", "j 0 99"]);
+        self.lines(&[
+            "j 0 0", "j 0 99", "g 0 99", "r 2", "j 0 99", "g 0 99", "g 1 99", "j 0 99",
+        ]);
         self.heading("the example of docs/CHANGES.md for request 2.1");
         self.lines(&["f 3 8", "x 2", "j 2 99", "r 2", "j 2 99", "x 2", "w 0 7 99", "j 2 99"]);
         self.lines(&["x 0", "x 1", "j 0 99"]);
@@ -199,6 +222,32 @@ impl Corpus {
         ]);
     }
 
+    /// "Reads should notice a loss" (request 2.3). The scenes have those that are cut after a loss.
+    fn reads(&mut self) {
+        self.heading("the example of docs/CHANGES.md for request 2.3");
+        self.lines(&["f 3 8", "w 0 7 99", "g 0 0", "x 2", "g 0 99", "g 0 99", "r 2", "j 2 99"]);
+        self.lines(&["x 0", "g 0 3", "s 99", "g 0 0"]);
+        for n in 1..=8 {
+            self.reads_while_disks_go(n);
+        }
+    }
+
+    /// After each loss a read of no block, which moves nowhere, a read that moves, and one that finds L = G; then the
+    /// refusals with none live, and while stopped.
+    fn reads_while_disks_go(&mut self, n: u16) {
+        let last = n - 1;
+        self.heading(&format!("reads while disks go, n = {n}"));
+        self.lines(&[format!("f {n} 2"), write(1, 30 + n)]);
+        for disk in 0..last {
+            self.line(format!("x {disk}"));
+            self.lines(&["g 2 0", "g 2 99", "g 1 99", "g 1 0"]);
+        }
+        self.line(format!("x {last}"));
+        self.lines(&["g 1 0", "g 1 99", "g 2 0", "c", "g 1 0", "g 1 99", "g 2 0"]);
+        self.line(format!("r {last}"));
+        self.lines(&["g 1 0", "s 99", "g 1 0"]);
+    }
+
     /// Disks that come and go between calls.
     fn lost_and_returned(&mut self) {
         for n in 2..=8u16 {
@@ -210,13 +259,15 @@ impl Corpus {
                 self.line(format!("w 1 {} 99", 10 * n + disk));
                 self.line(format!("r {disk}"));
                 self.line(format!("r {disk}"));
-                self.lines(&["g 1", "c", "s 99", "g 1"]);
+                self.lines(&["g 1 99", "c", "s 99", "g 1 99"]);
                 self.line(format!("j {disk} {}", 3 * n + disk));
-                self.lines(&["g 1", "s 99", "g 1"]);
+                self.lines(&["g 1 99", "s 99", "g 1 99"]);
                 self.line(format!("j {disk} 99"));
             }
             self.heading("a member that comes back is current again");
-            self.lines(&["x 0", "g 1", "q 99", "r 0", "g 1", "w 0 3 99", "q 99", "q 0"]);
+            self.lines(&["x 0", "q 99", "r 0", "g 1 0", "w 0 3 99", "q 99", "q 0"]);
+            self.heading("a member that a read has left behind is not");
+            self.lines(&["x 0", "g 1 99", "r 0", "g 1 0", "j 0 99", "g 1 0"]);
             self.heading("cohorts that shrink to one disk, and restarts of the others");
             for disk in 0..n - 1 {
                 self.line(format!("x {disk}"));
@@ -229,7 +280,7 @@ impl Corpus {
             self.line(format!("x {}", n - 1));
             self.line("s 99");
             self.line(format!("r {}", n - 1));
-            self.lines(&["s 99", "g 0", "j 0 99", "x 7", "g 0", "g 1"]);
+            self.lines(&["s 99", "g 0 99", "j 0 99", "x 7", "g 0 99", "g 1 99"]);
         }
     }
 
@@ -247,12 +298,10 @@ impl Corpus {
         self.heading("a refused f keeps state and area");
         self.lines(&["f 3 2", "w 1 44 99", "x 1", "w 0 45 99"]);
         for refused in ["f 0 1", "f 9 1", "f 1 0", "f 1 65", "f 0 0", "f 9 65", "f 257 1"] {
-            self.lines(&[refused, "g 0", "g 1"]);
+            self.lines(&[refused, "g 0 99", "g 1 99"]);
         }
-        self.lines(&[
-            "c", "f 9 9", "g 0", "f 1 65", "s 0", "s 99", "g 0", "g 1", "r 1", "j 1 99",
-        ]);
-        self.lines(&["x 0", "x 2", "g 0", "g 1"]);
+        self.lines(&["c", "f 9 9", "g 0 99", "f 1 65", "s 0", "s 99", "g 0 99", "g 1 99"]);
+        self.lines(&["r 1", "j 1 99", "x 0", "x 2", "g 0 99", "g 1 99"]);
         self.heading("the largest cabinet");
         self.lines(&["f 8 64", "w 63 255 65535", "w 0 1 65535", "x 0", "w 31 9 500", "r 0"]);
         self.lines(&[
@@ -260,13 +309,12 @@ impl Corpus {
             "x 1",
             "c",
             "s 65535",
-            "g 63",
-            "g 31",
+            "g 63 99",
+            "g 31 99",
             "r 1",
             "j 1 70",
-            "s 2000",
         ]);
-        self.lines(&["g 63", "g 0", "g 31"]);
+        self.lines(&["s 2000", "g 63 99", "x 7", "g 0 99", "g 31 99"]);
     }
 
     /// Bad lines of every kind, with good ones between that show that nothing changed.
@@ -276,7 +324,7 @@ impl Corpus {
         for (count, line) in BAD_LINES.iter().enumerate() {
             self.line(line);
             if count % 4 == 0 {
-                self.line("g 7");
+                self.line("g 7 99");
             }
         }
         self.heading("each letter with too few and too many numbers");
@@ -291,37 +339,44 @@ impl Corpus {
                 self.line(format!("{letter}{tail}"));
             }
         }
-        self.lines(&["g 7", "r 1", "g 7"]);
+        self.lines(&["g 7 99", "r 1", "g 7 99"]);
         self.heading("leading zeros are good, up to five digits");
-        self.lines(&["f 00002 00009", "w 00007 00007 00099", "g 00007", "x 00001", "r 1"]);
         self.lines(&[
-            "w 0 00255 65535",
-            "g 00000",
-            "q 00000",
-            "f 2 9",
-            "j 00001 0",
-            "c",
-            "s 00099",
+            "f 00002 00009",
+            "w 00007 00007 00099",
+            "g 00007 00000",
+            "x 00001",
+            "r 1",
         ]);
-        self.lines(&["w 00008 000 00", "s 65535", "w 00008 9 4", "g 8", "g 00008", "g 008"]);
+        self.lines(&["w 0 00255 65535", "g 00000 00000", "q 00000", "f 2 9", "j 00001 0"]);
+        self.lines(&["c", "s 00099", "w 00008 000 00", "s 65535", "w 00008 9 4"]);
+        self.lines(&["g 8 0", "g 00008 00001", "g 008 65535"]);
+    }
+
+    /// Bad reads with a disk away, where a good one would move: none of them does.
+    fn bad_reads(&mut self) {
+        self.heading("bad reads with a disk away");
+        self.lines(&["f 2 9", "w 0 77 99", "x 1"]);
+        self.lines(&BAD_READS);
+        self.line("g 0 99");
     }
 
     /// A line of over 32 bytes is one bad line, however long. No line of 32 bytes is good either: the longest good
     /// one, `w` with three numbers of five digits, has 19.
     fn long_lines(&mut self) {
         self.heading("long lines");
-        self.lines(&["f 2 9", "w 65535 00255 65535", "w 00008 00255 65535", "g 00008"]);
+        self.lines(&["f 2 9", "w 65535 00255 65535", "w 00008 00255 65535", "g 00008 65535"]);
         for length in [18, 19, 20, 31, 32, 33, 34, 63, 64, 65, 100, 5000, 20000] {
-            self.line(format!("g {:0>1$}", 8, length - 2));
-            self.line(format!("g 8{:1$}", "", length - 3));
-            self.line("g 8");
+            self.line(format!("g 8 {:0>1$}", 9, length - 4));
+            self.line(format!("g 8 9{:1$}", "", length - 5));
+            self.line("g 8 9");
         }
         for length in [31, 32, 33, 34, 63, 64, 65, 66, 96, 97, 98, 99, 100] {
             self.line(format!("{:1$}c", "", length - 1));
             self.line(format!("{:x<1$}", "w 8 1 99", length));
             self.line(format!("{}s 99", "c".repeat(length - 4)));
         }
-        self.lines(&["g 8", "q 0", "s 99", "g 8"]);
+        self.lines(&["g 8 99", "q 0", "s 99", "g 8 99"]);
     }
 
     /// Random histories, of the same kind as the benchmark's but from other seeds.
@@ -339,13 +394,25 @@ impl Corpus {
     /// "The last line may lack its line feed."
     fn last_line(&mut self) {
         self.heading("the last line lacks its line feed");
-        self.lines(&["f 4 3", "w 2 123 99", "", "g 2"]);
-        self.bytes.extend(b"g 2");
+        self.lines(&["f 4 3", "w 2 123 99", "", "g 2 99"]);
+        self.bytes.extend(b"g 2 99");
     }
 }
 
+/// Reads that are no commands.
+const BAD_READS: [&str; 8] = [
+    "g 0",
+    "g",
+    "g 0 ",
+    "g 0 99 1",
+    "g 65536 1",
+    "g 0 65536",
+    "g  0 1",
+    "G 0 1",
+];
+
 /// Lines that are no commands.
-const BAD_LINES: [&[u8]; 74] = [
+const BAD_LINES: [&[u8]; 77] = [
     b"",
     b" ",
     b"  ",
@@ -361,40 +428,43 @@ const BAD_LINES: [&[u8]; 74] = [
     b"J 1 9",
     b"Q 9",
     b"S 9",
-    b"G 7",
+    b"G 7 9",
     b"g",
-    b"g 7 7",
-    b"g  7",
-    b" g 7",
-    b"g 7 ",
-    b"g\t7",
-    b"g 7\r",
+    b"g 7",
+    b"g 7 7 7",
+    b"g  7 9",
+    b"g 7  9",
+    b" g 7 9",
+    b"g 7 9 ",
+    b"g\t7 9",
+    b"g 7\t9",
+    b"g 7 9\r",
     b"c\r",
     b"\r",
     b"\t",
-    b"g 7\0",
-    b"g\x007",
+    b"g 7 9\0",
+    b"g\x007 9",
     b"\0",
-    b"g \xff",
+    b"g \xff 9",
     b"\xff\xfe",
-    b"g 7\x80",
+    b"g 7 9\x80",
     b"\xc3\xa9",
-    b"g +7",
-    b"g -7",
-    b"g -0",
-    b"+g 7",
-    b"g 0x7",
-    b"g 7h",
-    b"g 1f",
-    b"g 7.0",
-    b"g 7,0",
-    b"g 1e1",
-    b"g 000001",
-    b"g 123456",
-    b"g 000000",
-    b"g 65536",
-    b"g 99999",
-    b"g 70000",
+    b"g +7 9",
+    b"g -7 9",
+    b"g 7 -0",
+    b"+g 7 9",
+    b"g 0x7 9",
+    b"g 7h 9",
+    b"g 7 1f",
+    b"g 7.0 9",
+    b"g 7,9",
+    b"g 7 1e1",
+    b"g 000001 9",
+    b"g 123456 9",
+    b"g 7 000000",
+    b"g 65536 9",
+    b"g 7 99999",
+    b"g 70000 9",
     b"w 7 256 9",
     b"w 7 00256 9",
     b"w 7 65535 9",
@@ -419,7 +489,7 @@ const BAD_LINES: [&[u8]; 74] = [
     b"s",
     b"s 9 9",
     b"f 1",
-    b"g7",
+    b"g7 9",
 ];
 
 impl Scene {
@@ -448,6 +518,11 @@ impl Scene {
     }
 }
 
+/// A read with a supply that suffices: a move has at most 14 stores.
+fn read(block: u16) -> String {
+    format!("g {block} 99")
+}
+
 /// A write with an ample supply.
 fn write(block: u16, value: u16) -> String {
     format!("w {block} {value} {AMPLE}")
@@ -468,12 +543,13 @@ fn scenes(n: u16) -> Vec<Scene> {
     scenes
 }
 
-/// All disks stay: a write without a move, a quiet, a restart.
+/// All disks stay: a read and a write without a move, a quiet, a restart.
 fn one_cohort_scenes(n: u16) -> Vec<Scene> {
     let ample = |line: &str| format!("{line} {AMPLE}");
     let two_regions = [write(0, 1), write(8, 2)];
     let torn = [write(0, 1), write(8, 2), "w 8 3 1".into()];
     vec![
+        Scene::new("a read", (n, 2), &[1], &[write(1, 1)], "g 1".into()),
         Scene::new("a write", (n, 2), &[1], &[write(1, 1), ample("q")], "w 1 2".into()),
         Scene::new(
             "a write to a dirty region",
@@ -488,45 +564,32 @@ fn one_cohort_scenes(n: u16) -> Vec<Scene> {
     ]
 }
 
-/// One disk is away: a write with a move first, a quiet, a join, restarts.
+/// One disk is away: a read and a write with a move first, a quiet, a join, restarts.
 fn smaller_cohort_scenes(n: u16, away: u16) -> Vec<Scene> {
-    let (lose, give_back) = (format!("x {away}"), format!("r {away}"));
-    let smaller = [write(1, 1), lose.clone(), write(1, 2), give_back];
-    let torn_move = [write(1, 1), lose.clone(), format!("w 1 2 {}", n / 2)];
-    let half_committed = [write(1, 1), lose.clone(), format!("w 1 2 {}", n - 1 + n / 2)];
+    let away_now = [write(1, 1), format!("x {away}")];
+    let then = |lines: &[String]| [&away_now[..], lines].concat();
+    let smaller = then(&[write(1, 2), format!("r {away}")]);
+    let torn_move = then(&[format!("w 1 2 {}", n / 2)]);
+    let torn_commit = then(&[format!("g 1 {}", n - 1 + n / 2)]);
     let torn_join = [&smaller[..], &[format!("j {away} {}", 2 + n + n / 2)]].concat();
     vec![
-        Scene::new(
-            "a write with a move",
-            (n, 2),
-            &[1],
-            &[write(1, 1), lose.clone()],
-            "w 1 2".into(),
-        ),
-        Scene::new(
-            "a quiet with a disk away",
-            (n, 2),
-            &[1],
-            &[write(1, 1), lose],
-            "q".into(),
-        ),
+        Scene::new("a read with a move", (n, 2), &[1], &away_now, "g 1".into()),
+        Scene::new("a write with a move", (n, 2), &[1], &away_now, "w 1 2".into()),
+        Scene::new("a quiet with a disk away", (n, 2), &[1], &away_now, "q".into()),
         Scene::new("a join", (n, 3), &[1], &smaller, format!("j {away}")),
         Scene::new("a restart after a cut proposal", (n, 2), &[1], &torn_move, "s".into()),
-        Scene::new(
-            "a restart after a cut commit",
-            (n, 2),
-            &[1],
-            &half_committed,
-            "s".into(),
-        ),
+        Scene::new("a restart after a cut commit", (n, 2), &[1], &torn_commit, "s".into()),
         Scene::new("a restart after a cut join", (n, 3), &[1], &torn_join, "s".into()),
     ]
 }
 
-/// Two disks are away: a join with a move first.
+/// Two disks are away: a read and a join with a move first.
 fn two_away_scenes(n: u16) -> Vec<Scene> {
-    let first = [write(1, 1), "x 0".into(), write(1, 2)];
-    let then = [format!("x {}", n - 1), "r 0".into()];
-    let setup = [&first[..], &then].concat();
-    vec![Scene::new("a join with a move", (n, 2), &[1], &setup, "j 0".into())]
+    let (lose_first, lose_last) = ("x 0".to_string(), format!("x {}", n - 1));
+    let away_now = [write(1, 1), lose_first.clone(), lose_last.clone()];
+    let one_behind = [write(1, 1), lose_first, write(1, 2), lose_last, "r 0".into()];
+    vec![
+        Scene::new("a read with two disks away", (n, 2), &[1], &away_now, "g 1".into()),
+        Scene::new("a join with a move", (n, 2), &[1], &one_behind, "j 0".into()),
+    ]
 }

@@ -18,6 +18,9 @@ use std::fmt::Display;
 /// The n and b of the cabinets that are explored, in this order.
 pub const SIZES: [(u16, u16); 6] = [(1, 1), (1, 2), (2, 1), (3, 1), (2, 2), (3, 2)];
 
+/// The output that each call is given. No block equals it, so that it shows when a read fills it.
+const GIVEN: [u8; BLOCK] = [170; BLOCK];
+
 /// What an exploration found.
 pub struct Survey {
     /// The reachable states that were visited.
@@ -111,10 +114,8 @@ impl Explorer<'_> {
     /// larger one makes no difference.
     fn step_at_every_supply(&mut self, from: usize, trial: &Trial, step: Step) -> Option<Failure> {
         for supply in 0.. {
-            let mut after = trial.clone();
-            let mut output = [0; BLOCK];
-            let call = step.call(supply, &after);
-            let outcome = after.take(&call, &mut output, self.claims);
+            let call = step.call(supply, trial);
+            let (after, outcome) = trial.after(&call, &GIVEN, self.claims);
             self.transitions += 1;
             let made = Some((step, supply));
             let failed = outcome.failed.or_else(|| self.visit(&after, from, made));
@@ -155,10 +156,10 @@ impl Explorer<'_> {
         let mut failed = trial.failing_in_state(&[claim]);
         for (step, supply) in steps.into_iter().rev() {
             let call = step.call(supply, &trial);
-            let mut output = [0; BLOCK];
-            let outcome = trial.take(&call, &mut output, &[claim]);
+            let (after, outcome) = trial.after(&call, &GIVEN, &[claim]);
+            trial = after;
             failed = outcome.failed.or_else(|| trial.failing_in_state(&[claim]));
-            let reply = Reply::to_call(&call, outcome.answer, &trial.cabinet.state, &output);
+            let reply = Reply::to_call(&call, outcome.answer, &trial.cabinet.state, &outcome.output);
             history.push(match outcome.told {
                 Some(diagnosis) => line_of(&call.line(), diagnosis),
                 None => line_of(&call.line(), reply),
@@ -178,7 +179,10 @@ impl Step {
     /// The call of this step.
     fn call(self, supply: u16, trial: &Trial) -> Call {
         match self {
-            Step::Read { block } => Call::Read { block: block.into() },
+            Step::Read { block } => Call::Read {
+                block: block.into(),
+                supply,
+            },
             Step::Write { block, differs } => Call::Write {
                 block: block.into(),
                 data: written(trial, block, differs),

@@ -27,6 +27,16 @@ fn move_to_live<'a>(state: &State) -> Vec<Store<'a>> {
     }
 }
 
+/// "A read with L different from G now moves to L before it copies the block" (request 2.3). The copy goes to the
+/// output, and is no store.
+pub fn read<'a>(rules: Rules, state: &State) -> Vec<Store<'a>> {
+    if rules.makes(Mistake::ReadStays) {
+        Vec::new()
+    } else {
+        move_to_live(state)
+    }
+}
+
 /// "Write block k: if L differs from G, move to L. Then set the region's dirty bit on each disk of L, ascending,
 /// where it does not stand. Then store the block on each disk of L, ascending."
 pub fn write<'a>(rules: Rules, state: &State, block: u8, data: &'a [u8]) -> Vec<Store<'a>> {

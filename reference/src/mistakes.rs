@@ -53,8 +53,18 @@ pub enum Mistake {
     OtherSetWithDisk,
     /// In stage 3 a disk's own set is its C though it has a T.
     OwnSetByStage,
+    /// A done read that moved reports 0 stores.
+    ReadCountsNoStores,
+    /// A read that is cut has filled the output all the same.
+    ReadFillsThenCut,
+    /// A read moves, and answers from the lowest member of the G before, though that may be out of reach.
+    ReadFromLostDisk,
+    /// A read moves, and leaves G as it was.
+    ReadKeepsSet,
     /// A read yields block 0.
     ReadOfAnotherBlock,
+    /// A read never moves: the rule before request 2.3.
+    ReadStays,
     /// A restart clears a region's dirty bits and copies nothing.
     RestartCopiesNothing,
     /// A restart names all disks in reach.
@@ -75,7 +85,7 @@ pub enum Mistake {
 
 impl Mistake {
     /// Every mistake with its name.
-    pub const ALL: [(Mistake, &'static str); 33] = [
+    pub const ALL: [(Mistake, &'static str); 38] = [
         (Mistake::AssembleOneSlot, "assemble_one_slot"),
         (Mistake::BlocksBeforeBits, "blocks_before_bits"),
         (Mistake::BookCountsAtLastDisk, "book_counts_at_last_disk"),
@@ -100,7 +110,12 @@ impl Mistake {
         (Mistake::OtherSetOfSeveral, "other_set_of_several"),
         (Mistake::OtherSetWithDisk, "other_set_with_disk"),
         (Mistake::OwnSetByStage, "own_set_by_stage"),
+        (Mistake::ReadCountsNoStores, "read_counts_no_stores"),
+        (Mistake::ReadFillsThenCut, "read_fills_then_cut"),
+        (Mistake::ReadFromLostDisk, "read_from_lost_disk"),
+        (Mistake::ReadKeepsSet, "read_keeps_set"),
         (Mistake::ReadOfAnotherBlock, "read_of_another_block"),
+        (Mistake::ReadStays, "read_stays"),
         (Mistake::RestartCopiesNothing, "restart_copies_nothing"),
         (Mistake::RestartNamesAll, "restart_names_all"),
         (Mistake::RestartRefusesAlways, "restart_refuses_always"),

@@ -42,7 +42,7 @@ pub fn parse(line: &[u8]) -> Option<Command> {
         (b"j", &[disk, supply]) => Call::Join { disk, supply },
         (b"q", &[supply]) => Call::Quiet { supply },
         (b"s", &[supply]) => Call::Restart { supply },
-        (b"g", &[block]) => Call::Read { block },
+        (b"g", &[block, supply]) => Call::Read { block, supply },
         _ => return None,
     };
     Some(Command::Call(call))

@@ -24,7 +24,9 @@ pub const IN_NO_HISTORY: [Mistake; 2] = [Mistake::OtherSetOfSeveral, Mistake::So
 pub fn claim_against(mistake: Mistake) -> Claim {
     match mistake {
         Mistake::AssembleOneSlot => Claim::SavedAssembles,
-        Mistake::CutRunsOn | Mistake::FormatWithTentative | Mistake::StaleTentative => Claim::Sound,
+        Mistake::CutRunsOn | Mistake::FormatWithTentative | Mistake::ReadKeepsSet | Mistake::StaleTentative => {
+            Claim::Sound
+        }
         Mistake::EarlyCommit | Mistake::FallbackToCommitted | Mistake::Majority | Mistake::RestartRefusesAlways => {
             Claim::RestartFinds
         }
@@ -33,7 +35,11 @@ pub fn claim_against(mistake: Mistake) -> Claim {
         Mistake::FinderMissesCommitted => Claim::FinderAgrees,
         Mistake::JoinNoneLiveBeforeMember | Mistake::JoinReachBeforeMember => Claim::MembersTold,
         Mistake::OtherSetOfSeveral | Mistake::OtherSetWithDisk => Claim::OtherSet,
+        Mistake::ReadCountsNoStores => Claim::ReadStores,
+        Mistake::ReadFillsThenCut => Claim::ReadKeepsOutput,
+        Mistake::ReadFromLostDisk => Claim::ReadWithinReach,
         Mistake::ReadOfAnotherBlock => Claim::ReadsBook,
+        Mistake::ReadStays => Claim::ReadMoves,
         Mistake::SoundIgnoresTentative => Claim::TestAgrees,
         Mistake::StageTwoWithoutProposal => Claim::NamedAsDefined,
         Mistake::CutWriteCountsEarly => Claim::CutCounts,

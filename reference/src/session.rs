@@ -48,13 +48,13 @@ const BAD: [&str; 12] = [
     "z 1",
     "w 0 256 1",
     "g",
-    "g 1 2",
+    "g 1",
     "s 65536",
     "x  1",
     "c ",
     "q -1",
     "J 0 9",
-    "g 000001",
+    "g 000001 9",
 ];
 
 impl Session {
@@ -88,7 +88,10 @@ impl Session {
     /// A line of this kind.
     fn line_of(&mut self, kind: Kind) -> String {
         match kind {
-            Kind::Read => format!("g {}", self.block()),
+            Kind::Read => {
+                let block = self.block();
+                format!("g {block} {}", self.supply())
+            }
             Kind::Write => {
                 let (block, value) = (self.block(), self.random.byte());
                 format!("w {block} {value} {}", self.supply())
@@ -143,7 +146,7 @@ impl Session {
     /// A disk, most often one that is out of reach.
     fn lost_disk(&mut self) -> u16 {
         let state = self.program.state();
-        let lost: Vec<u8> = (0..state.disks).filter(|&d| !state.reach.has(d)).collect();
+        let lost: Vec<u8> = state.lost().members().collect();
         if lost.is_empty() || self.random.percent(40) {
             self.disk()
         } else {

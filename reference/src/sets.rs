@@ -33,9 +33,14 @@ impl DiskSet {
         DiskSet(self.0 & other.0)
     }
 
+    /// The disks of this set that are not in the other.
+    pub fn minus(self, other: DiskSet) -> DiskSet {
+        DiskSet(self.0 & !other.0)
+    }
+
     /// Whether each disk of this set is in the other.
     pub fn inside(self, other: DiskSet) -> bool {
-        self.0 & !other.0 == 0
+        self.minus(other).is_empty()
     }
 
     /// Whether the set has no disk.

@@ -3,6 +3,7 @@
 use crate::label::Label;
 use crate::mistakes::{Mistake, Rules};
 use crate::sets::DiskSet;
+use std::ops::Range;
 
 /// A block is 64 bytes.
 pub const BLOCK: usize = 64;
@@ -57,6 +58,11 @@ impl State {
         self.current().and(self.reach)
     }
 
+    /// The disks that are out of reach.
+    pub fn lost(&self) -> DiskSet {
+        DiskSet::below(self.disks).minus(self.reach)
+    }
+
     /// Whether the cabinet is stopped.
     pub fn is_stopped(&self) -> bool {
         self.power == Power::Stopped
@@ -68,7 +74,7 @@ impl State {
     }
 
     /// The blocks of a region, ascending.
-    pub fn region_blocks(&self, region: u8) -> std::ops::Range<u8> {
+    pub fn region_blocks(&self, region: u8) -> Range<u8> {
         region * REGION..self.blocks.min((region + 1) * REGION)
     }
 
@@ -78,9 +84,14 @@ impl State {
     }
 
     /// "Block k of disk d starts at (d × b + k) × 64."
-    pub fn block_range(&self, disk: u8, block: u8) -> std::ops::Range<usize> {
+    pub fn block_range(&self, disk: u8, block: u8) -> Range<usize> {
         let start = (disk as usize * self.blocks as usize + block as usize) * BLOCK;
         start..start + BLOCK
+    }
+
+    /// "That disk's part of the area."
+    pub fn disk_range(&self, disk: u8) -> Range<usize> {
+        self.block_range(disk, 0).start..self.block_range(disk, self.blocks).start
     }
 
     /// "A state is sound when": the clauses in the paper's order.

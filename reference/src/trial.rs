@@ -17,12 +17,14 @@ pub struct Trial {
 }
 
 /// What came of a call.
-#[derive(Clone, Copy, Debug, PartialEq, Eq)]
+#[derive(Clone, Debug, PartialEq, Eq)]
 pub struct Outcome {
     /// The answer of the cabinet that is tried.
     pub answer: Answer,
     /// What that cabinet told, if the call is a diagnosis.
     pub told: Option<Diagnosis>,
+    /// The output after the call, if it is a read.
+    pub output: Vec<u8>,
     /// The answer of the book's own cabinet.
     pub book_answer: Answer,
     /// The first claim that failed.
@@ -39,32 +41,36 @@ impl Trial {
         })
     }
 
-    /// Makes a call, and checks these claims of it.
-    pub fn take(&mut self, call: &Call, output: &mut [u8], claims: &[Claim]) -> Outcome {
-        let before = self.cabinet.state;
-        let answer = self.cabinet.take(call, output);
+    /// The trial after a call, which was given this output, and what came of it. These claims are checked.
+    pub fn after(&self, call: &Call, given: &[u8], claims: &[Claim]) -> (Trial, Outcome) {
+        let (mut after, mut output) = (self.clone(), output_for(call, given));
+        let answer = after.cabinet.take(call, &mut output);
+        let Cabinet { rules, state, .. } = &self.cabinet;
         let told = match *call {
-            Call::Diagnose { stage, disk } => Some(diagnose(self.cabinet.rules, &before, stage, disk)),
+            Call::Diagnose { stage, disk } => Some(diagnose(*rules, state, stage, disk)),
             _ => None,
         };
-        let taken = self.book.take(call);
+        let taken = after.book.take(call, &mut output_for(call, given));
         let event = Event {
-            before: &before,
+            before: &self.cabinet,
             call,
+            given,
+            answer,
+            told,
+            output: &output,
+            after: &after.cabinet,
+            book: &after.book,
+            counted: taken.counted,
+        };
+        let failed = claims.iter().find(|claim| !claim.holds_of(&event)).copied();
+        let outcome = Outcome {
             answer,
             told,
             output,
-            after: &self.cabinet,
-            book: &self.book,
-            counted: taken.counted,
-        };
-        let fails = |claim: &&Claim| !claim.holds_of(&event);
-        Outcome {
-            answer,
-            told,
             book_answer: taken.answer,
-            failed: claims.iter().find(fails).copied(),
-        }
+            failed,
+        };
+        (after, outcome)
     }
 
     /// The first of these claims about states that fails in the state as it now is.
@@ -72,5 +78,13 @@ impl Trial {
         let (rules, state) = (self.cabinet.rules, &self.cabinet.state);
         let fails = |claim: &&Claim| !claim.holds_in(rules, state);
         claims.iter().find(fails).copied()
+    }
+}
+
+/// A copy of the given output for a read. No other call takes one.
+fn output_for(call: &Call, given: &[u8]) -> Vec<u8> {
+    match call {
+        Call::Read { .. } => given.to_vec(),
+        _ => Vec::new(),
     }
 }

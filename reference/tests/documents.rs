@@ -17,11 +17,18 @@ const PAGES: [(&str, &str); 2] = [
 const BEFORE: &str = "it answered before";
 
 /// The sections whose sessions have that column, and what was otherwise in the rules before.
-const CHANGES: [(&str, &str, Mistake); 1] = [(
-    "docs/CHANGES.md",
-    "A pulled disk that is current, asked to join: 11 where it was 10",
-    Mistake::JoinReachBeforeMember,
-)];
+const CHANGES: [(&str, &str, Mistake); 2] = [
+    (
+        "docs/CHANGES.md",
+        "A pulled disk that is current, asked to join: 11 where it was 10",
+        Mistake::JoinReachBeforeMember,
+    ),
+    (
+        "docs/CHANGES.md",
+        "A read after a loss moves, takes a supply, and can be cut",
+        Mistake::ReadStays,
+    ),
+];
 
 /// A session, and where it stands.
 struct Session {

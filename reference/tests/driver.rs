@@ -19,7 +19,7 @@ fn answers(input: &str) -> String {
 
 #[test]
 fn input_may_be_split_anywhere() {
-    let input = b"f 3 8\nx 2\n\nw 0 7 99\nbad line of more than thirty-two bytes\nc\ns 99\n\n\ng 0";
+    let input = b"f 3 8\nx 2\n\nw 0 7 99\nbad line of more than thirty-two bytes\nc\ns 99\n\n\ng 0 9";
     let whole = driver::answers(Rules::PAPER, input);
     for size in 1..=input.len() {
         assert_eq!(in_pieces(input.chunks(size)), whole, "pieces of {size}");
@@ -41,10 +41,10 @@ fn the_corpus_may_be_split_anywhere() {
 
 #[test]
 fn the_last_line_may_lack_its_line_feed() {
-    assert_eq!(answers("f 1 1\ng 0"), "0 0 1 1 0\n0 0 1 1 0\n");
-    assert_eq!(answers("f 1 1\ng 0\n"), "0 0 1 1 0\n0 0 1 1 0\n");
-    assert_eq!(answers("f 1 1\ng 0\n\n"), "0 0 1 1 0\n0 0 1 1 0\n99 0 1 1 0\n");
-    assert_eq!(answers("f 1 1\ng 0\n "), "0 0 1 1 0\n0 0 1 1 0\n99 0 1 1 0\n");
+    assert_eq!(answers("f 1 1\ng 0 9"), "0 0 1 1 0\n0 0 1 1 0\n");
+    assert_eq!(answers("f 1 1\ng 0 9\n"), "0 0 1 1 0\n0 0 1 1 0\n");
+    assert_eq!(answers("f 1 1\ng 0 9\n\n"), "0 0 1 1 0\n0 0 1 1 0\n99 0 1 1 0\n");
+    assert_eq!(answers("f 1 1\ng 0 9\n "), "0 0 1 1 0\n0 0 1 1 0\n99 0 1 1 0\n");
 }
 
 #[test]
@@ -56,7 +56,7 @@ fn empty_input_prints_nothing() {
 #[test]
 fn a_long_line_is_one_line() {
     for length in [32, 33, 34, 100, 65536, 70000, 200000] {
-        let input = format!("f 1 1\n{}\ng 0\n", "g".repeat(length));
+        let input = format!("f 1 1\n{}\ng 0 9\n", "g".repeat(length));
         assert_eq!(answers(&input), "0 0 1 1 0\n99 0 1 1 0\n0 0 1 1 0\n", "{length}");
     }
 }

@@ -30,18 +30,18 @@ fn all_claims_hold_with_one_disk() {
 
 #[test]
 fn all_claims_hold_with_two_disks() {
-    all_claims_hold(2, 1, 404, 11_227);
-    all_claims_hold(2, 2, 1_328, 42_024);
+    all_claims_hold(2, 1, 404, 11_243);
+    all_claims_hold(2, 2, 1_328, 42_088);
 }
 
 #[test]
 fn all_claims_hold_with_three_disks_of_one_block() {
-    all_claims_hold(3, 1, 135_048, 4_608_740);
+    all_claims_hold(3, 1, 135_048, 4_613_492);
 }
 
 #[test]
 fn all_claims_hold_with_three_disks_of_two_blocks() {
-    all_claims_hold(3, 2, 830_768, 31_679_328);
+    all_claims_hold(3, 2, 830_768, 31_716_768);
 }
 
 #[test]

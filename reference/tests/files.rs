@@ -1,8 +1,10 @@
 //! The corpus: it is what the reference makes, it keeps within its limits, and it has every result often enough.
 
+use reference::call::Call;
 use reference::driver;
 use reference::files::{self, Made};
 use reference::mistakes::{Mistake, Rules};
+use reference::program::{parse, Command};
 use std::collections::HashMap;
 
 /// The corpus's input and output.
@@ -10,17 +12,31 @@ fn made() -> [Vec<u8>; 2] {
     files::all().map(|file| file.bytes)
 }
 
-/// How often each result occurs.
-fn results(output: &[u8]) -> HashMap<u16, usize> {
-    let text = std::str::from_utf8(output).expect("answers are ASCII");
+/// How often each result occurs in answers to these lines.
+fn results(asked: impl Fn(&[u8]) -> bool) -> HashMap<u16, usize> {
+    let [stdin, stdout] = made();
+    let text = std::str::from_utf8(&stdout).expect("answers are ASCII");
+    let lines = stdin.split(|&byte| byte == b'\n').zip(text.lines());
     let mut counts = HashMap::new();
-    for line in text.lines() {
-        let result = line.split(' ').next().and_then(|word| word.parse().ok());
+    for (_, answer) in lines.filter(|(line, _)| asked(line)) {
+        let result = answer.split(' ').next().and_then(|word| word.parse().ok());
         *counts
             .entry(result.expect("an answer begins with a number"))
             .or_insert(0) += 1;
     }
     counts
+}
+
+/// Exactly these results occur, and each often enough.
+fn each_is_there(counts: HashMap<u16, usize>, possible: &[u16]) {
+    for result in possible {
+        assert!(counts[result] >= 20, "{result} is too rare");
+    }
+    assert_eq!(counts.len(), possible.len());
+}
+
+fn is_read(line: &[u8]) -> bool {
+    matches!(parse(line), Some(Command::Call(Call::Read { .. })))
 }
 
 #[test]
@@ -40,13 +56,13 @@ fn the_files_keep_within_their_limits() {
 
 #[test]
 fn the_corpus_has_every_result_of_the_program() {
-    let [_, stdout] = made();
-    let counts = results(&stdout);
     let possible = [0, 1, 4, 5, 6, 7, 8, 9, 10, 11, 12, 13, 15, 99];
-    for result in possible {
-        assert!(counts[&result] >= 20, "{result} is too rare");
-    }
-    assert_eq!(counts.len(), possible.len());
+    each_is_there(results(|_| true), &possible);
+}
+
+#[test]
+fn the_corpus_has_every_result_of_a_read() {
+    each_is_there(results(is_read), &[0, 1, 6, 9, 12, 15]);
 }
 
 #[test]
@@ -59,7 +75,7 @@ fn the_last_line_of_the_corpus_lacks_its_line_feed() {
 }
 
 /// The mistakes that change no answer of the cabinet program on any input: they are about other things.
-const UNSEEN_BY_THE_PROGRAM: [Mistake; 13] = [
+const UNSEEN_BY_THE_PROGRAM: [Mistake; 15] = [
     Mistake::AssembleOneSlot,
     Mistake::BookCountsAtLastDisk,
     Mistake::BookCountsEveryWrite,
@@ -71,6 +87,8 @@ const UNSEEN_BY_THE_PROGRAM: [Mistake; 13] = [
     Mistake::OtherSetOfSeveral,
     Mistake::OtherSetWithDisk,
     Mistake::OwnSetByStage,
+    Mistake::ReadFillsThenCut,
+    Mistake::ReadFromLostDisk,
     Mistake::SoundIgnoresTentative,
     Mistake::WriteBoundThree,
 ];

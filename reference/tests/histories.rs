@@ -1,16 +1,16 @@
 //! Demand 3 and the claims beside it, on random histories with the book kept beside. The seeds are fixed; the variable
 //! HISTORY_SEED gives another one.
 
+use reference::cabinet::Answer;
 use reference::call::Call;
 use reference::claims::Claim;
 use reference::mistakes::Rules;
 use reference::random::Random;
-use reference::sets::DiskSet;
 use reference::state::State;
 use reference::trial::Trial;
 
 /// Histories of each cabinet, and calls of each history.
-const HISTORIES: usize = 12;
+const HISTORIES: usize = 24;
 const CALLS: usize = 1000;
 
 fn seed() -> u64 {
@@ -29,19 +29,20 @@ fn number(random: &mut Random, bound: u8) -> u16 {
 
 /// A disk to join, most often one that can.
 fn apart(random: &mut Random, state: &State) -> u16 {
-    let joins = DiskSet(state.reach.0 & !state.current().0).lowest();
+    let joins = state.reach.minus(state.current()).lowest();
     match joins {
         Some(disk) if random.percent(70) => disk.into(),
         _ => number(random, state.disks),
     }
 }
 
-/// A supply: one that suffices, one of the size of most lists, or any.
+/// A supply: one that suffices, one of the size of a move or of most lists, or any.
 fn supply(random: &mut Random, state: &State) -> u16 {
     let disks = u16::from(state.disks);
     match random.below(10) {
-        0..=4 => 65535,
-        5..=7 => random.between(0, 4 * disks + 2),
+        0..=3 => 65535,
+        4..=5 => random.between(0, 2 * disks),
+        6..=7 => random.between(0, 4 * disks + 2),
         8 => random.between(0, 3 * disks + u16::from(state.blocks) * disks),
         _ => random.between(0, 65535),
     }
@@ -59,6 +60,7 @@ fn data(random: &mut Random) -> Vec<u8> {
 fn random_call(random: &mut Random, state: &State) -> Call {
     let kind = match (random.below(100), state.is_stopped()) {
         (0..=34, true) => 4,
+        (0..=24, false) if !state.current().inside(state.reach) => 0,
         (0..=34, false) => 1,
         (35..=49, _) => 6,
         (50..=59, _) => 2,
@@ -68,6 +70,7 @@ fn random_call(random: &mut Random, state: &State) -> Call {
     match kind {
         0 => Call::Read {
             block: number(random, state.blocks),
+            supply,
         },
         1 => Call::Write {
             block: number(random, state.blocks),
@@ -101,26 +104,28 @@ struct Tally {
     finished: usize,
     /// Those of more than one disk, with all n in reach.
     finished_with_all: usize,
-    /// Writes, joins and restarts that were cut.
-    cut: [usize; 3],
-    /// Writes, joins and diagnoses that were done.
-    done: [usize; 3],
+    /// Reads, writes, joins and restarts that were cut.
+    cut: [usize; 4],
+    /// Reads that moved, and writes, joins and diagnoses, that were done.
+    done: [usize; 4],
 }
 
 impl Tally {
-    fn count(&mut self, call: &Call, result: u8, after: &State) {
-        let all = after.current().size() > 1 && after.reach == DiskSet::below(after.disks);
-        match (call, result) {
+    fn count(&mut self, call: &Call, answer: Answer, after: &State) {
+        let all = after.current().size() > 1 && after.lost().is_empty();
+        match (call, answer.result) {
             (Call::Restart { .. }, 0) => {
                 self.finished += 1;
                 self.finished_with_all += usize::from(all);
             }
-            (Call::Write { .. }, 15) => self.cut[0] += 1,
-            (Call::Join { .. }, 15) => self.cut[1] += 1,
-            (Call::Restart { .. }, 15) => self.cut[2] += 1,
-            (Call::Write { .. }, 0) => self.done[0] += 1,
-            (Call::Join { .. }, 0) => self.done[1] += 1,
-            (Call::Diagnose { .. }, 0) => self.done[2] += 1,
+            (Call::Read { .. }, 15) => self.cut[0] += 1,
+            (Call::Write { .. }, 15) => self.cut[1] += 1,
+            (Call::Join { .. }, 15) => self.cut[2] += 1,
+            (Call::Restart { .. }, 15) => self.cut[3] += 1,
+            (Call::Read { .. }, 0) => self.done[0] += usize::from(answer.stores > 0),
+            (Call::Write { .. }, 0) => self.done[1] += 1,
+            (Call::Join { .. }, 0) => self.done[2] += 1,
+            (Call::Diagnose { .. }, 0) => self.done[3] += 1,
             _ => {}
         }
     }
@@ -141,9 +146,9 @@ fn history(random: &mut Random, n: u16, b: u16, tally: &mut Tally) {
         let call = random_call(random, &trial.cabinet.state);
         lines.push(call.line());
         let length = if random.percent(95) { 64 } else { random.below(129) };
-        let mut output = vec![170; length];
-        let outcome = trial.take(&call, &mut output, &claims);
-        tally.count(&call, outcome.answer.result, &trial.cabinet.state);
+        let (after, outcome) = trial.after(&call, &vec![170; length], &claims);
+        trial = after;
+        tally.count(&call, outcome.answer, &trial.cabinet.state);
         let failed = outcome.failed.or_else(|| trial.failing_in_state(&Claim::OF_STATES));
         if let Some(claim) = failed {
             panic!("{}: {}", claim.words(Rules::PAPER), lines.join(", "));

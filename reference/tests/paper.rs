@@ -138,7 +138,7 @@ fn session(input: &str, output: &str) {
 #[test]
 fn the_session_prints_what_the_paper_prints() {
     session(
-        "f 3 8\nx 2\nw 0 7 99\nc\ns 99\nr 2\nj 2 99\ng 0\n",
+        "f 3 8\nx 2\nw 0 7 99\nc\ns 99\nr 2\nj 2 99\ng 0 99\n",
         "0 0 7 7 0\n0 0 7 3 0\n0 8 3 3 0\n0 0 0 3 0\n0 12 3 3 0\n0 0 3 7 0\n0 14 7 7 0\n0 0 7 7 7\n",
     );
 }
@@ -146,16 +146,16 @@ fn the_session_prints_what_the_paper_prints() {
 #[test]
 fn h13_a_write_of_one_store_keeps_the_old_block() {
     session(
-        "f 1 1\nw 0 5 1\ns 99\ng 0\n",
+        "f 1 1\nw 0 5 1\ns 99\ng 0 99\n",
         "0 0 1 1 0\n15 1 0 1 0\n0 2 1 1 0\n0 0 1 1 0\n",
     );
-    session("f 1 1\nw 0 5 2\ng 0\n", "0 0 1 1 0\n0 2 1 1 0\n0 0 1 1 5\n");
+    session("f 1 1\nw 0 5 2\ng 0 99\n", "0 0 1 1 0\n0 2 1 1 0\n0 0 1 1 5\n");
 }
 
 #[test]
 fn h14_a_write_of_three_stores_has_the_new_block() {
     session(
-        "f 2 1\nw 0 5 3\ns 99\ng 0\nx 0\ng 0\n",
-        "0 0 3 3 0\n15 3 0 3 0\n0 5 3 3 0\n0 0 3 3 5\n0 0 3 2 0\n0 0 3 2 5\n",
+        "f 2 1\nw 0 5 3\ns 99\ng 0 99\nx 0\ng 0 99\n",
+        "0 0 3 3 0\n15 3 0 3 0\n0 5 3 3 0\n0 0 3 3 5\n0 0 3 2 0\n0 2 2 2 5\n",
     );
 }

@@ -15,9 +15,11 @@ use std::collections::BTreeSet;
 const CALLS: usize = 400_000;
 /// The states in which every stage and disk is asked for.
 const ASKED: usize = 20_000;
+/// The states in which a block is read at every supply.
+const READ: usize = 20_000;
 /// The numbers of the calls, and the results that each can give.
 const RESULTS: [&[u8]; 14] = [
-    &[0, 1, 2, 3, 6, 9, 12],
+    &[0, 1, 2, 3, 6, 9, 12, 15],
     &[0, 1, 2, 3, 6, 9, 12, 15],
     &[0, 1, 2, 6, 8, 10, 11, 12, 15],
     &[0, 1, 6, 12, 15],
@@ -61,28 +63,56 @@ fn plain_calls_give_what_the_reference_gives() {
 /// A call that takes a state and is in the paper's list.
 fn call_on_state(random: &mut Random, kind: usize) -> u8 {
     let state = any_state(random);
-    let area_length = usize::from(state.disks) * usize::from(state.blocks) * 64;
-    let mut area = any_bytes(random, area_length);
-    let mut output = any_bytes(random, 64);
+    let (area, output) = any_buffers(random, &state);
     let call = any_call(random, kind);
+    compare(random, state, &area, &call, &output).result
+}
+
+/// A disk area and an output, mostly of the right lengths.
+fn any_buffers(random: &mut Random, state: &State) -> (Vec<u8>, Vec<u8>) {
+    let area_length = usize::from(state.disks) * usize::from(state.blocks) * 64;
+    (any_bytes(random, area_length), any_bytes(random, 64))
+}
+
+/// One call by both, each with its own copies of the buffers.
+fn compare(random: &mut Random, state: State, area: &[u8], call: &Call, output: &[u8]) -> Answer {
     let mut cabinet = Cabinet {
         rules: Rules::PAPER,
         state: state.into(),
-        area: area.clone(),
+        area: area.to_vec(),
     };
-    let mut expected_output = output.clone();
-    let expected = cabinet.take(&call, &mut expected_output);
-    let given = make(random, state, &mut area, &call, &mut output);
+    let (mut area, mut output, mut expected_output) = (area.to_vec(), output.to_vec(), output.to_vec());
+    let expected = cabinet.take(call, &mut expected_output);
+    let given = make(random, state, &mut area, call, &mut output);
     check(given, expected, cabinet.state.into());
     assert!(area == cabinet.area && output == expected_output, "{state:?} {call:?}");
-    given.result
+    given
+}
+
+/// A move to L, which is one to seven of eight disks, has two stores a disk: all these reads occur, done and cut.
+#[test]
+fn plain_reads_give_what_the_reference_gives_at_every_supply() {
+    let mut random = Random::new(3);
+    let mut seen = BTreeSet::new();
+    for _ in 0..READ {
+        let state = any_state(&mut random);
+        let (area, output) = any_buffers(&mut random, &state);
+        let block = any_number(&mut random);
+        for supply in 0..=17 {
+            let answer = compare(&mut random, state, &area, &Call::Read { block, supply }, &output);
+            seen.insert((answer.result, answer.stores));
+        }
+    }
+    let refused = [1, 2, 3, 6, 9, 12].map(|result| (result, 0));
+    let (done, cut) = ((0..=7).map(|size| (0, 2 * size)), (0..14).map(|made| (15, made)));
+    assert_eq!(seen, done.chain(cut).chain(refused).collect());
 }
 
 /// Any call of this kind.
 fn any_call(random: &mut Random, kind: usize) -> Call {
     let (number, supply) = (any_number(random), any_supply(random));
     match kind {
-        0 => Call::Read { block: number },
+        0 => Call::Read { block: number, supply },
         1 => Call::Write {
             block: number,
             data: any_bytes(random, 64),
@@ -104,7 +134,7 @@ fn any_call(random: &mut Random, kind: usize) -> Call {
 /// The same call in plain Rust.
 fn make(random: &mut Random, state: State, area: &mut [u8], call: &Call, output: &mut [u8]) -> Answer {
     match *call {
-        Call::Read { block } => plain::read(state, area, wide(random, block), output),
+        Call::Read { block, supply } => plain::read(state, area, wide(random, block), output, supply),
         Call::Write {
             block,
             ref data,

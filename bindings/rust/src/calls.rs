@@ -24,6 +24,7 @@ unsafe extern "C" {
         block: usize,
         output: *mut u8,
         output_length: usize,
+        budget: u16,
     ) -> Answer;
     fn cabinet_write(
         state: State,
@@ -64,19 +65,21 @@ impl State {
         unsafe { cabinet_format(disks, blocks, area.as_mut_ptr(), area.len()) }
     }
 
-    /// Copies the block into `output`, which is of 64 bytes, from the lowest current disk that is in reach.
+    /// Copies the block into `output`, which is of 64 bytes, from the lowest current disk that is in reach. If some are
+    /// not, the cabinet first moves to those that are, and these alone are current then: take the answer's state. If
+    /// all are, there is no store to make, and a budget of 0 will do.
     ///
     /// Refusals: 1 not sound, 2 the area's length, 3 the output's length, 6 stopped, 9 no such block, 12 no current
-    /// disk in reach.
+    /// disk in reach, 15 the power lost, with `output` as it was.
     #[inline]
-    pub fn read(self, area: &[u8], block: usize, output: &mut [u8]) -> Answer {
+    pub fn read(self, area: &[u8], block: usize, output: &mut [u8], budget: u16) -> Answer {
         let (to, length) = (output.as_mut_ptr(), output.len());
         // SAFETY: as the module says.
-        unsafe { cabinet_read(self, area.as_ptr(), area.len(), block, to, length) }
+        unsafe { cabinet_read(self, area.as_ptr(), area.len(), block, to, length, budget) }
     }
 
     /// Writes the 64 bytes of `data` as the block, on each current disk that is in reach. If some are not, the
-    /// cabinet first moves to those that are.
+    /// cabinet first moves to those that are, as a read does.
     ///
     /// Refusals: 1 not sound, 2 the area's length, 3 the data's length, 6 stopped, 9 no such block, 12 no current disk
     /// in reach, 15 the power lost.

@@ -22,7 +22,7 @@
 //! let restarted = cut.state.restart(&mut area, 99);
 //! restarted.outcome()?;
 //! let mut block = [0; BLOCK_SIZE];
-//! restarted.state.read(&area, 0, &mut block).outcome()?;
+//! restarted.state.read(&area, 0, &mut block, 99).outcome()?;
 //! assert_eq!(block, [8; BLOCK_SIZE]);
 //! # Ok::<(), Refusal>(())
 //! ```

@@ -1,4 +1,4 @@
-//! The cases of document 01 that it gives to be run: its session, H13 and H14.
+//! The cases of document 01 that it gives to be run: its session, H13 and H14. And a read of document 02's 2.3.
 
 use cabinet::{area_length, Answer, Refusal, State, BLOCK_SIZE};
 
@@ -45,7 +45,7 @@ impl Cabinet {
     /// The block, which a done read gives.
     fn block(&self, block: usize) -> [u8; BLOCK_SIZE] {
         let mut output = [0xee; BLOCK_SIZE];
-        let answer = self.state.read(&self.area, block, &mut output);
+        let answer = self.state.read(&self.area, block, &mut output, 99);
         assert_eq!((answer.outcome(), answer.stores, answer.state), (Ok(()), 0, self.state));
         output
     }
@@ -84,6 +84,24 @@ fn h14_a_block_on_one_disk_of_two_is_kept() {
     let mut cabinet = Cabinet::new(2, 1);
     assert_eq!(cabinet.write(0, 7, 3), [15, 3, 0, 3]);
     assert_eq!(cabinet.restart(99), [0, 5, 3, 3]);
+    assert_eq!(cabinet.block(0), [7; BLOCK_SIZE]);
+}
+
+/// "A read that is cut leaves the output buffer unchanged."
+#[test]
+fn a_read_after_a_loss_moves_and_then_fills_the_output() {
+    let mut cabinet = Cabinet::new(3, 8);
+    assert_eq!(cabinet.write(0, 7, 99), [0, 6, 7, 7]);
+    let lost = cabinet.state.detach(2).state;
+    for budget in 0..=5 {
+        let mut output = [0xee; BLOCK_SIZE];
+        let answer = lost.read(&cabinet.area, 0, &mut output, budget);
+        let (told, byte) = match budget {
+            0..=3 => ([15, budget, 0, 3], 0xee),
+            _ => ([0, 4, 3, 3], 7),
+        };
+        assert_eq!((cabinet.follow(answer), output), (told, [byte; BLOCK_SIZE]));
+    }
     assert_eq!(cabinet.block(0), [7; BLOCK_SIZE]);
 }
 

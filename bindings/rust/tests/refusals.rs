@@ -93,14 +93,16 @@ fn format_refuses() {
 
 #[test]
 fn read_refuses() {
-    let read: Call = |state, area, output| state.read(area, 8, output);
-    let beyond: Call = |state, area, output| state.read(area, usize::MAX, output);
+    let read: Call = |state, area, output| state.read(area, 8, output, 0);
+    let beyond: Call = |state, area, output| state.read(area, usize::MAX, output, 0);
     keeps_all(Unsound, read, unsound(), (0, 0));
     keeps_all(BufferLength, read, stopped(), (AREA - 1, 0));
     keeps_all(BlockLength, read, stopped(), (AREA, 63));
     keeps_all(Stopped, beyond, stopped(), (AREA, 64));
     keeps_all(NoSuchBlock, beyond, reaching(0, running()), (AREA, 64));
     keeps_all(NoneLive, read, reaching(0, running()), (AREA, 64));
+    let lost = |state| reaching(2, state);
+    is_refused(PowerLost, read, lost(running()), lost(stopped()), (AREA, 64));
 }
 
 #[test]

@@ -127,8 +127,8 @@ sessions-meet-demand-3 n b lent calls s area session = record {
       (demand session c .finds (callOf c) budget is);
   each-handed = handed session;
   reads-right =
-      λ c k is. rw (answer-is session c, ap (λ o. o .output) (yielded-is session c))
-      (reads-right n b lent (done session c) _ (callOf c) k is);
+      λ c k budget is. rw (answer-is session c, ap (λ o. o .output) (yielded-is session c))
+      (reads-right n b lent (done session c) _ (callOf c) k budget is);
   acknowledged =
       λ c k budget is. rw (write-is session c k budget is, book-is session c k budget is)
       (counting session c k budget is .acknowledged);

@@ -113,7 +113,8 @@ pub record MeetsDemand3 (n b : ℕ) (lent : List ℕ) (calls : List Exchange) : 
   -- every call was handed a state and an area, so what is said of those is said of each call
   pub each-handed : (c : ExchangeIn calls) → Handed n b lent (c .before) (c .this)
   -- Beside demand 3, what callers rely on: a read that gave 0 filled its output with the block of the book,
-  pub reads-right : (c : ExchangeIn calls) (k : ℕ) → c .this .given .call ≡ Read k → c .this .answer .refusal ≡ 0
+  pub reads-right : (c : ExchangeIn calls) (k budget : ℕ) → c .this .given .call ≡ Read k budget
+      → c .this .answer .refusal ≡ 0
       → c .this .output ≡ contentsAt n b c k
   -- "a write that gives 0 counts", one that is refused does not,
   pub acknowledged : (c : ExchangeIn calls) (k budget : ℕ) → c .this .given .call ≡ Write k budget

@@ -18,7 +18,7 @@ pub fn apply(call: Call, s: State, area: &mut [u8], bytes: &[u8], output: &mut [
         ≡ perform call (now (bytes .entry)) (now (output .entry)) (record { state = s; area = now (area .entry) }) ⌝ }
 {
     match call {
-        Call::Read { block } => storage::read(s, area, block, output),
+        Call::Read { block, budget } => storage::read(s, area, block, output, budget),
         Call::Write { block, budget } => storage::write(s, area, block, bytes, budget),
         Call::Join { disk, budget } => storage::join(s, area, disk, budget),
         Call::Clean { budget } => cleaning::clean(s, budget),

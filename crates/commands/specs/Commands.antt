@@ -53,19 +53,18 @@ entry letter ((x, command) ∷ later) = cond (eqb letter x) command (entry lette
 abbrev withNone : List (ℕ × Command)
 withNone = (99, Perform PowerOff 0) ∷ []
 
--- `x d` lose, `r d` return, `q p` quiet, `s p` restart, `g k` read
+-- `x d` lose, `r d` return, `q p` quiet, `s p` restart
 abbrev withOne : ℕ → List (ℕ × Command)
 withOne a =
     (120, Perform (Detach a) 0) ∷
     (114, Perform (Attach a) 0) ∷
     (113, Perform (Clean a) 0) ∷
     (115, Perform (Restart a) 0) ∷
-    (103, Perform (Read a) 0) ∷
     []
 
--- `f n b` fresh, `j d p` join
+-- `f n b` fresh, `j d p` join; "The program's line becomes `g k p`", a read (document 02, 2.3)
 abbrev withTwo : ℕ → ℕ → List (ℕ × Command)
-withTwo a b = (102, Format a b) ∷ (106, Perform (Join a b) 0) ∷ []
+withTwo a b = (102, Format a b) ∷ (106, Perform (Join a b) 0) ∷ (103, Perform (Read a b) 0) ∷ []
 
 -- `w k v p`, "write a block of 64 bytes v (at most 255) with supply p"
 abbrev withThree : ℕ → ℕ → ℕ → List (ℕ × Command)

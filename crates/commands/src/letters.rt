@@ -34,7 +34,6 @@ fn with_one(letter: u8, a: u16) -> Command
         b'r' => plain(Call::Attach { disk: a as usize }),
         b'q' => plain(Call::Clean { budget: a }),
         b's' => plain(Call::Restart { budget: a }),
-        b'g' => plain(Call::Read { block: a as usize }),
         _ => Command::Bad,
     }
 }
@@ -49,6 +48,10 @@ fn with_two(letter: u8, a: u16, b: u16) -> Command
         },
         b'j' => plain(Call::Join {
             disk: a as usize,
+            budget: b,
+        }),
+        b'g' => plain(Call::Read {
+            block: a as usize,
             budget: b,
         }),
         _ => Command::Bad,

@@ -16,11 +16,12 @@ pub extern "C" fn cabinet_read(
     area: &[u8],
     block: usize,
     output: &mut [u8],
+    budget: u16,
 ) -> FlatAnswer
     ensures { λ r. ⌜ record { answer = r; area = now (area .entry); output = now (output .exit) }
-        ≡ flatOutcome (readOutcome (opened state) (now (area .entry)) (now (output .entry)) block) ⌝ }
+        ≡ flatOutcome (readOutcome (opened state) (now (area .entry)) (now (output .entry)) block budget) ⌝ }
 {
-    flat_answer(cabinet::read(opened(state), area, block, output))
+    flat_answer(cabinet::read(opened(state), area, block, output, budget))
 }
 
 #[no_mangle]

@@ -12,11 +12,11 @@ use Rattle.protocol.specs.declared.Call.the-variants.{Diagnose}
 use Rattle.protocol.specs.Geometry.{blockSize}
 use Rattle.protocol.specs.Stores.{Store}
 use Rattle.protocol.specs.Outcomes.{Outcome, refusedOr, carryOut, runsWith}
-use Rattle.protocol.specs.Calls.{readOutcome, writeOutcome, joinOutcome, cleanOutcome}
+use Rattle.protocol.specs.Calls.{copiesOut, readOutcome, writeOutcome, joinOutcome, cleanOutcome}
 use Rattle.protocol.specs.Calls.{restartOutcome, detachOutcome, attachOutcome, powerOffOutcome}
 use Rattle.protocol.specs.Diagnosis.{diagnoseOutcome}
 use Rattle.protocol.specs.History.{Cabinet, perform}
-use Rattle.protocol.proofs.Outcomes.{refused-or, cut-or-whole}
+use Rattle.protocol.proofs.Outcomes.{refused-or, cut-or-whole, refused-cut-or-whole}
 use Rattle.interpreter.specs.Execution.{isRead, firstByte}
 
 module _ (bytes : List ℕ) (c : Cabinet) where
@@ -49,10 +49,11 @@ module _ (bytes : List ℕ) (c : Cabinet) where
       at-once call refusals _ (carried (λ l. left call _) (λ l. left call _))
 
   pub first-byte : (call : Call) → IsFirstByte call (perform call bytes zeros c)
-  unfolding perform firstByte readOutcome writeOutcome joinOutcome cleanOutcome restartOutcome detachOutcome
+  unfolding perform firstByte readOutcome copiesOut writeOutcome joinOutcome cleanOutcome restartOutcome detachOutcome
       attachOutcome powerOffOutcome diagnoseOutcome
-  first-byte (Read k) =
-      refused-or _ (c .state) (c .area) zeros _ (IsFirstByte (Read k)) (λ ne. rw (ne-eqb _ _ ne)) (λ z. refl)
+  first-byte (Read k budget) =
+      refused-cut-or-whole _ budget (c .state) (c .area) zeros _ _ (IsFirstByte (Read k budget))
+      (λ ne. rw (ne-eqb _ _ ne)) (λ e l. refl) (λ e l. refl)
   first-byte (Write k budget) = by-stores (Write k budget) _ _ _ _
   first-byte (Join d budget) = by-stores (Join d budget) _ _ _ _
   first-byte (Clean budget) = by-stores (Clean budget) _ _ _ _

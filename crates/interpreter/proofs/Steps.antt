@@ -45,7 +45,7 @@ module _ (bytes output area : List ℕ) where
   unfolding perform readOutcome writeOutcome joinOutcome cleanOutcome restartOutcome detachOutcome attachOutcome
       powerOffOutcome diagnoseOutcome blockRefusals joinRefusals cleanRefusals restartRefusals reachRefusals
       diagnoseRefusals
-  zero-stays (Read k) = refuses _ _
+  zero-stays (Read k budget) = refuses _ _
   zero-stays (Write k budget) = refuses _ _
   zero-stays (Join d budget) = refuses _ _
   zero-stays (Clean budget) = refuses _ _

@@ -56,7 +56,7 @@ replyTo result stores s byte =
     record { result = result; stores = stores; current = currentOf (s .power); online = s .online; byte = byte }
 
 abbrev pub isRead : Call → Bool
-isRead (Read k) = true
+isRead (Read k budget) = true
 isRead (Write k budget) = false
 isRead (Join d budget) = false
 isRead (Clean budget) = false

@@ -7,8 +7,9 @@ use Prim.Native.Nat.{ℕ}
 use Rattle.protocol.specs.History.{Cabinet, perform}
 use Rattle.protocol.specs.Reference.{carriedBy}
 use Rattle.protocol.proofs.Preservation.{Preserves}
-use Rattle.protocol.proofs.StorelessCalls.{read-preserves, detach-preserves}
-use Rattle.protocol.proofs.StorelessCalls.{attach-preserves, power-off-preserves, diagnose-preserves}
+use Rattle.protocol.proofs.StorelessCalls.{detach-preserves, attach-preserves}
+use Rattle.protocol.proofs.StorelessCalls.{power-off-preserves, diagnose-preserves}
+use Rattle.protocol.proofs.BlockReads.{read-preserves}
 use Rattle.protocol.proofs.Writes.{write-preserves}
 use Rattle.protocol.proofs.Joins.{join-preserves}
 use Rattle.protocol.proofs.Cleans.{clean-preserves}
@@ -17,7 +18,7 @@ use Rattle.protocol.proofs.Restarts.{restart-preserves}
 pub call-preserves : (call : Call) (bytes output : List ℕ) (c : Cabinet)
     → Preserves c (carriedBy call bytes c) (perform call bytes output c)
 unfolding perform carriedBy
-call-preserves (Read k) bytes output c = read-preserves c output k
+call-preserves (Read k budget) bytes output c = read-preserves c k output budget
 call-preserves (Write k budget) bytes output c = write-preserves c k bytes output budget
 call-preserves (Join d budget) bytes output c = join-preserves c d output budget
 call-preserves (Clean budget) bytes output c = clean-preserves c output budget

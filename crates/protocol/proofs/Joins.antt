@@ -14,7 +14,7 @@ use Rattle.sets.proofs.Operations.{has-union, has-singleton}
 use Rattle.sets.proofs.Bounds.{member-below, below-pow, below-with}
 use Rattle.sets.proofs.LowestMember.{non-empty}
 use Rattle.protocol.specs.declared.State.{State}
-use Rattle.protocol.specs.States.{currentOf, live, source}
+use Rattle.protocol.specs.States.{live, source}
 use Rattle.protocol.specs.Soundness.{Proper, FitCurrent}
 use Rattle.protocol.specs.Stores.{Disks, copy, applyAll}
 use Rattle.protocol.specs.Lists.{move, moveToLive, fill, joinList}
@@ -86,7 +86,7 @@ module _ (c : Cabinet) (d : ℕ) where
   w = disksOf s (c .area)
 
   abbrev moved : Disks
-  moved = applyAll b (moveToLive n (currentOf (s .power)) l) w
+  moved = applyAll b (moveToLive s) w
 
   abbrev filled : Disks
   filled = applyAll b (fill b l d) moved
@@ -131,7 +131,7 @@ module _ (c : Cabinet) (d : ℕ) where
       join-cut : Along b (Restartable n b contents) (joinList s d) w
       unfolding joinList
       join-cut =
-          along-append b (Restartable n b contents) (moveToLive n _ l) (fill b l d ++ move n joined) w
+          along-append b (Restartable n b contents) (moveToLive s) (fill b l d ++ move n joined) w
           (live-cut c (pass .fit) (pass .runs) (pass .some) contents h)
           (along-append b (Restartable n b contents) (fill b l d) (move n joined) moved
           (fill-cut n b contents l d (pass .known) moved moved-sync)
@@ -146,7 +146,7 @@ module _ (c : Cabinet) (d : ℕ) where
           (below-pow joined n .0 known) all-hold)
 
     -- and the labels fit
-    moves-fit : Each (KeepsFit n b) (moveToLive n (currentOf (s .power)) l)
+    moves-fit : Each (KeepsFit n b) (moveToLive s)
     moves-fit = live-fits c (pass .fit) (pass .runs) (pass .some)
 
     fill-fits : Each (KeepsFit n b) (fill b l d)

@@ -13,7 +13,8 @@ use Rattle.sets.proofs.Tests.{and-parts, same-or-not}
 use Rattle.sets.proofs.Operations.{has-union, has-difference, has-singleton}
 use Rattle.label.specs.declared.Label.{Label}
 use Rattle.label.specs.Bytes.{blank}
-use Rattle.protocol.specs.States.{labelAt, committedAt, tentativeAt, isDirty}
+use Rattle.protocol.specs.declared.State.{State}
+use Rattle.protocol.specs.States.{labelAt, committedAt, tentativeAt, isDirty, live}
 use Rattle.protocol.specs.Stores.{Disks, mark, clear, propose, commit, withDirty, withCommitted, apply, applyAll}
 use Rattle.protocol.specs.Lists.{proposals, commits, moveToLive}
 use Rattle.protocol.proofs.Lists.{each-live}
@@ -66,20 +67,23 @@ module _ (b d r : ℕ) (w : Disks) (room : d < length (w .labels)) where
       (λ h. and-parts (isDirty (w .labels) d q) _
       (sym (has-difference ((labelAt (w .labels) d) .dirty) (singleton r) q) ∙ h) .0) (λ i ne h. h) e
 
--- a move leaves them
-pub move-dirty : (b n g l : ℕ) (w : Disks) (e : ℕ)
-    → (labelAt (applyAll b (moveToLive n g l) w .labels) e) .dirty ≡ (labelAt (w .labels) e) .dirty
-move-dirty b n g l w e =
-    keeps b Kept (each-live n l (λ d i m v. propose-keeps d v) (λ d i m v. commit-keeps d v) g) w refl
+-- a move leaves them, and the area
+pub move-dirty : (b : ℕ) (s : State) (w : Disks) (e : ℕ)
+    → (labelAt (applyAll b (moveToLive s) w .labels) e) .dirty ≡ (labelAt (w .labels) e) .dirty
+move-dirty b s w e = keeps b Kept (each-live s (λ d i m v. propose-keeps d v) (λ d i m v. commit-keeps d v)) w refl
   where
     Kept : Disks → Type 0
     Kept v = (labelAt (v .labels) e) .dirty ≡ (labelAt (w .labels) e) .dirty
 
-    propose-keeps : (d : ℕ) (v : Disks) → Kept v → Kept (apply b (propose d l) v)
+    propose-keeps : (d : ℕ) (v : Disks) → Kept v → Kept (apply b (propose d (live s)) v)
     propose-keeps d v q = unfold apply in field-set (λ x. x .dirty) (v .labels) d _ refl e ∙ q
 
-    commit-keeps : (d : ℕ) (v : Disks) → Kept v → Kept (apply b (commit d l) v)
+    commit-keeps : (d : ℕ) (v : Disks) → Kept v → Kept (apply b (commit d (live s)) v)
     commit-keeps d v q = unfold apply in field-set (λ x. x .dirty) (v .labels) d _ refl e ∙ q
+
+pub move-area : (b : ℕ) (s : State) (w : Disks) → applyAll b (moveToLive s) w .area ≡ w .area
+unfolding apply
+move-area b s w = keeps b (λ v. v .area ≡ w .area) (each-live s (λ d i m v q. q) (λ d i m v q. q)) w refl
 
 -- ---- whole moves
 

@@ -29,6 +29,7 @@ pub mod NotRefused
 pub mod Preservation
 pub mod LiveMoves
 pub mod StorelessCalls
+pub mod BlockReads
 pub mod Writes
 pub mod Joins
 pub mod Cleans

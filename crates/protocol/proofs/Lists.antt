@@ -10,7 +10,7 @@ use Rattle.label.specs.declared.Label.{Label}
 use Rattle.protocol.specs.declared.State.{State}
 use Rattle.protocol.specs.Geometry.{regionSize, regions}
 use Rattle.protocol.specs.Loops.{forEach, some}
-use Rattle.protocol.specs.States.{isDirty, source}
+use Rattle.protocol.specs.States.{isDirty, currentOf, live, source}
 use Rattle.protocol.specs.Stores.{Store, write, copy, mark, clear, propose, commit}
 use Rattle.protocol.specs.Lists.{proposals, commits, move, moveToLive, marks, blockStores, fill}
 use Rattle.protocol.specs.Lists.{cleanList, forBlocks, copies, clears, resync, resyncs}
@@ -39,9 +39,11 @@ module _ {P : Store → Type 0} where
     unfolding move
     each-move = each-append (each-proposal n s p) (each-commit n s c)
 
-    pub each-live : (g : ℕ) → Each P (moveToLive n g s)
-    unfolding moveToLive
-    each-live g = each-unless (eqb s g) (λ z. each-move)
+  pub each-live : (s : State) → ((d : ℕ) → d < s .disks → has (live s) d ≡ true → P (propose d (live s)))
+      → ((d : ℕ) → d < s .disks → has (live s) d ≡ true → P (commit d (live s)))
+      → Each P (moveToLive s)
+  unfolding moveToLive
+  each-live s p c = each-unless (eqb (live s) (currentOf (s .power))) (λ z. each-move _ _ p c)
 
   -- ---- write, join, clean
 

@@ -50,10 +50,10 @@ module _ (c : Cabinet) (fit : Sound (c .state)) (runs : c .state .power ≡ Runn
   known : below l n ≡ true
   known = live-known s fit
 
-  pub live-fits : Each (KeepsFit n b) (moveToLive n g l)
-  live-fits = each-live n l (fit-propose n b l known) (fit-commit n b l known) g
+  pub live-fits : Each (KeepsFit n b) (moveToLive s)
+  live-fits = each-live s (fit-propose n b l known) (fit-commit n b l known)
 
-  pub live-current : Proper s → FitCurrent n (applyAll b (moveToLive n g l) w .labels) l
+  pub live-current : Proper s → FitCurrent n (applyAll b (moveToLive s) w .labels) l
   unfolding moveToLive applyAll
   live-current p = go (eqb l g) refl
     where
@@ -71,7 +71,7 @@ module _ (c : Cabinet) (fit : Sound (c .state)) (runs : c .state .power ≡ Runn
     still-holds : (d : ℕ) → has l d ≡ true → Holds n b contents w d
     still-holds d m = in-sync .holds d (live-inside s d m)
 
-    pub live-cut : Along b (Restartable n b contents) (moveToLive n g l) w
+    pub live-cut : Along b (Restartable n b contents) (moveToLive s) w
     unfolding moveToLive
     live-cut = go (eqb l g)
       where
@@ -81,7 +81,7 @@ module _ (c : Cabinet) (fit : Sound (c .state)) (runs : c .state .power ≡ Runn
             move-cut n b contents g l w in-sync (source l) (live-inside s _ in-l) in-l some
             (below-pow l n .0 known) still-holds
 
-    pub live-done : InSync n b contents l (applyAll b (moveToLive n g l) w)
+    pub live-done : InSync n b contents l (applyAll b (moveToLive s) w)
     unfolding moveToLive applyAll
     live-done = go (eqb l g) refl
       where

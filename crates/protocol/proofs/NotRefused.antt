@@ -33,7 +33,7 @@ area-if : (s : State) (area : List ℕ) → wrongArea (s .disks) (s .blocks) are
 area-if s area e = eqb-true _ _ (not-false _ e)
 
 -- it runs, with what is its current set
-abbrev Runs : Power → Type 0
+abbrev pub Runs : Power → Type 0
 Runs p = p ≡ Running (currentOf p)
 
 runs-if : (p : Power) → not (isRunning p) ≡ false → Runs p

@@ -53,11 +53,12 @@ module _ (stores : List Store) (budget : ℕ) (s : State) (area output : List �
   abbrev ending : Outcome
   ending = whole (length stores) (applyAll (s .blocks) stores (disksOf s area))
 
-  is-cut : budget < length stores → carryOut stores budget s area output whole ≡ cutShort stores budget s area output
+  pub is-cut : budget < length stores
+      → carryOut stores budget s area output whole ≡ cutShort stores budget s area output
   unfolding carryOut
   is-cut l = rw (lt-ltb _ _ l)
 
-  is-whole : length stores ≤ budget → carryOut stores budget s area output whole ≡ ending
+  pub is-whole : length stores ≤ budget → carryOut stores budget s area output whole ≡ ending
   unfolding carryOut
   is-whole l = rw (le-ltb _ _ l)
 

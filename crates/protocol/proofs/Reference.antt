@@ -44,7 +44,7 @@ module _ (s : State) (k d j : ℕ) where
   prepares : Each (NoBlock d j) (preparations s k)
   unfolding preparations
   prepares =
-      each-append (each-live _ (live s) (λ e i m. refl) (λ e i m. refl) _)
+      each-append (each-live s (λ e i m. refl) (λ e i m. refl))
       (each-mark _ _ (live s) (regionOf k) (λ e i. refl))
 
   pub early : (p : ℕ) → include d j (take p (preparations s k)) ≡ false

@@ -26,9 +26,16 @@ source-has = lowest-has
 pub source-known : (n set : ℕ) → 0 < set → below set n ≡ true → source set < n
 source-known n set filled known = member-below set n (source set) (below-pow set n .0 known) (source-has set filled)
 
--- what is live are members of the current set
-pub live-inside : (s : State) (d : ℕ) → has (live s) d ≡ true → has (currentOf (s .power)) d ≡ true
-live-inside s d m = and-parts _ _ (sym (has-intersection (currentOf (s .power)) (s .online) d) ∙ m) .0
+-- what is live are members of the current set, and in reach
+module _ (s : State) (d : ℕ) (m : has (live s) d ≡ true) where
+  live-both : (has (currentOf (s .power)) d ≡ true) × (has (s .online) d ≡ true)
+  live-both = and-parts _ (has (s .online) d) (sym (has-intersection (currentOf (s .power)) (s .online) d) ∙ m)
+
+  pub live-inside : has (currentOf (s .power)) d ≡ true
+  live-inside = live-both .0
+
+  pub live-in-reach : has (s .online) d ≡ true
+  live-in-reach = live-both .1
 
 -- labels that are filled up read as before: past its end a list has blank ones
 pub filled-up : (n : ℕ) (labels : List Label) (d : ℕ) → labelAt (filledUp n labels) d ≡ labelAt labels d

@@ -1,4 +1,4 @@
--- What the calls preserve that make no store: read, detach, attach, power off and diagnose. Assumes nothing.
+-- What the calls preserve that make no store: detach, attach, power off and diagnose. Assumes nothing.
 use mathlib.Core.Path.{_≡_, refl}
 use mathlib.Core.Bool.{true}
 use mathlib.Core.List.{List, []}
@@ -10,8 +10,7 @@ use Rattle.protocol.specs.declared.Power.the-variants.{Stopped}
 use Rattle.protocol.specs.declared.State.{State}
 use Rattle.protocol.specs.States.{withOnline}
 use Rattle.protocol.specs.Outcomes.{outcome, disksOf}
-use Rattle.protocol.specs.Calls.{blockRefusals, readOutcome, reachRefusals}
-use Rattle.protocol.specs.Calls.{detachOutcome, attachOutcome, powerOffOutcome}
+use Rattle.protocol.specs.Calls.{reachRefusals, detachOutcome, attachOutcome, powerOffOutcome}
 use Rattle.protocol.specs.Diagnosis.{diagnoseRefusals, diagnoseOutcome}
 use Rattle.protocol.specs.History.{Cabinet}
 use Rattle.protocol.specs.Reference.{afterWrites}
@@ -23,20 +22,12 @@ module _ (c : Cabinet) (output : List ℕ) where
   abbrev s : State
   s = c .state
 
-  -- done, and nothing but an output is another
-  stays : (filled : List ℕ) → Preserves c [] (outcome 0 0 s (c .area) filled)
-  unfolding afterWrites
-  stays filled =
-      ends-with c [] 0 0 (disksOf s (c .area)) (s .online) (s .power) filled (λ z. omega arith) (λ p. p)
-      (λ contents h. h .held)
-
-  pub read-preserves : (k : ℕ) → Preserves c [] (readOutcome s (c .area) output k)
-  unfolding readOutcome blockRefusals
-  read-preserves k = unless-refused c [] _ output _ refl (λ ne. refl) (λ e. stays _)
-
   pub diagnose-preserves : (stage d : ℕ) → Preserves c [] (diagnoseOutcome s (c .area) output stage d)
-  unfolding diagnoseOutcome diagnoseRefusals
-  diagnose-preserves stage d = unless-refused c [] _ output _ refl (λ ne. refl) (λ e. stays output)
+  unfolding diagnoseOutcome diagnoseRefusals afterWrites
+  diagnose-preserves stage d =
+      unless-refused c [] _ output _ refl (λ ne. refl)
+      (λ e. ends-with c [] 0 0 (disksOf s (c .area)) (s .online) (s .power) output (λ z. omega arith) (λ p. p)
+      (λ contents h. h .held))
 
   -- another reach
   reaches : (online : ℕ) → below online (s .disks) ≡ true

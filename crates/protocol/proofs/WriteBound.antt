@@ -6,9 +6,10 @@ use native.Mathlib.Omega.{arith}
 use lib.Dec.{eqb}
 use lib.ListN.{length, length-append}
 use Rattle.sets.specs.Sets.{members}
-use Rattle.sets.proofs.Bounds.{below-pow, below-intersection}
+use Rattle.sets.proofs.Bounds.{below-pow}
 use Rattle.sets.proofs.Cardinality.{size-members}
 use Rattle.label.specs.declared.Label.{Label}
+use Rattle.protocol.specs.declared.State.{State}
 use Rattle.protocol.specs.Geometry.{regionOf}
 use Rattle.protocol.specs.States.{isDirty, currentOf, live}
 use Rattle.protocol.specs.Stores.{mark, propose, commit}
@@ -16,15 +17,22 @@ use Rattle.protocol.specs.Lists.{proposals, commits, move, moveToLive, m
 use Rattle.protocol.specs.Lists.{blockStores, preparations, writeList}
 use Rattle.protocol.specs.Claims.{WriteBound}
 use Rattle.protocol.proofs.Loops.{for-length-le}
+use Rattle.protocol.proofs.Soundness.{live-known}
 
 -- each part of the list has at most one store for each member, and a move has two parts
-module _ (n l : ℕ) where
+module _ (s : State) where
+  abbrev n : ℕ
+  n = s .disks
+
+  abbrev l : ℕ
+  l = live s
+
   abbrev most : ℕ
   most = length (members n l)
 
-  move-most : (g : ℕ) → length (moveToLive n g l) ≤ most + most
+  move-most : length (moveToLive s) ≤ most + most
   unfolding moveToLive move proposals commits
-  move-most g = go (eqb l g)
+  move-most = go (eqb l (currentOf (s .power)))
     where
       go : (t : Bool) → length (cond t [] (proposals n l ++ commits n l)) ≤ most + most
       go true = omega arith
@@ -50,15 +58,13 @@ module _ (n l : ℕ) where
 pub write-bound : WriteBound
 unfolding writeList preparations
 write-bound s k bytes fit =
-    let n = s .disks in
-    let g = currentOf (s .power) in
-    let m = marks n (s .labels) (live s) (regionOf k) in
+    let m = marks (s .disks) (s .labels) (live s) (regionOf k) in
     omega (
       arith,
-      size-members n (live s) (below-pow (live s) n .0 (below-intersection g (s .online) n (fit .online))),
-      length-append (moveToLive n g (live s) ++ m) (blockStores n (live s) k bytes),
-      length-append (moveToLive n g (live s)) m,
-      move-most n (live s) g,
-      marks-most n (live s) (s .labels) (regionOf k),
-      blocks-most n (live s) k bytes,
+      size-members (s .disks) (live s) (below-pow (live s) (s .disks) .0 (live-known s fit)),
+      length-append (moveToLive s ++ m) (blockStores (s .disks) (live s) k bytes),
+      length-append (moveToLive s) m,
+      move-most s,
+      marks-most s (s .labels) (regionOf k),
+      blocks-most s k bytes,
     )

@@ -18,7 +18,7 @@ use Rattle.protocol.specs.declared.Call.the-variants.{Write}
 use Rattle.protocol.specs.declared.State.{State}
 use Rattle.protocol.specs.Geometry.{blockSize, regionOf, areaSize}
 use Rattle.protocol.specs.Loops.{forEach}
-use Rattle.protocol.specs.States.{isDirty, currentOf, live, source}
+use Rattle.protocol.specs.States.{isDirty, live, source}
 use Rattle.protocol.specs.Soundness.{Proper, FitCurrent}
 use Rattle.protocol.specs.Stores.{Disks, Store, write, mark, apply, applyAll}
 use Rattle.protocol.specs.Lists.{moveToLive, marks, preparations, blockStores, writeList}
@@ -234,18 +234,18 @@ module _ (c : Cabinet) (k : ℕ) (bytes : List ℕ) where
     -- it keeps the disks consistent
     module _ (contents : Contents) (h : Consistent contents c) where
       abbrev moved : Disks
-      moved = applyAll b (moveToLive n (currentOf (s .power)) l) w
+      moved = applyAll b (moveToLive s) w
 
       moved-sync : InSync n b contents l moved
       moved-sync = live-done c (pass .fit) (pass .runs) (pass .some) contents h
 
       still-dirty : (e q : ℕ) → isDirty (s .labels) e q ≡ true → isDirty (moved .labels) e q ≡ true
-      still-dirty e q z = rw (move-dirty b n (currentOf (s .power)) l w e) z
+      still-dirty e q z = rw (move-dirty b s w e) z
 
       prepare-cut : Along b (Restartable n b contents) (preparations s k) w
       unfolding preparations
       prepare-cut =
-          along-append b (Restartable n b contents) (moveToLive n _ l) (marks n (s .labels) l (regionOf k)) w
+          along-append b (Restartable n b contents) (moveToLive s) (marks n (s .labels) l (regionOf k)) w
           (live-cut c (pass .fit) (pass .runs) (pass .some) contents h)
           (marks-cut n b contents l (s .labels) (regionOf k) moved moved-sync still-dirty)
 

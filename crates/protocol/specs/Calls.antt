@@ -14,9 +14,9 @@ use Rattle.protocol.specs.Geometry.{wrongDiskCount, wrongBlockCount, blo
 use Rattle.protocol.specs.States.{filledUp, stateOf, withOnline, poweredOff}
 use Rattle.protocol.specs.States.{zeroState, currentOf, isRunning, live, source}
 use Rattle.protocol.specs.Soundness.{sound}
-use Rattle.protocol.specs.Lists.{writeList, joinList, cleanList, restartList}
+use Rattle.protocol.specs.Lists.{moveToLive, writeList, joinList, cleanList, restartList}
 use Rattle.protocol.specs.Naming.{Found, foundNumber, theSet, foundBy}
-use Rattle.protocol.specs.Outcomes.{Outcome, outcome, refusedOr, runsWith, carryOut}
+use Rattle.protocol.specs.Outcomes.{Outcome, outcome, refusedOr, Ending, runsWith, carryOut}
 
 -- ---- what refusals ask
 
@@ -72,7 +72,8 @@ formatOutcome area output n b =
 
 -- ---- read and write
 
--- "Read: 3, the output is not 64 bytes. 6, stopped. 9, k is not below b. 12, L is empty."
+-- "Read: 3, the output is not 64 bytes. 6, stopped. 9, k is not below b. 12, L is empty." "Read gains 15 as its last
+-- refusal" (document 02, 2.3).
 -- "Write: 3, the data is not 64 bytes. 6. 9. 12. 15."
 unfoldable pub blockRefusals : State → List ℕ → ℕ → List ℕ → List (ℕ × Bool)
 blockRefusals s area k bytes =
@@ -84,11 +85,15 @@ blockRefusals s area k bytes =
     noneLive s ∷
     []
 
--- "Read copies block k from the lowest member of L."
-unfoldable pub readOutcome : State → List ℕ → List ℕ → ℕ → Outcome
-readOutcome s area output k =
+-- "Read copies block k from the lowest member of L.": once its list is made, so "a read that is cut leaves the output
+-- buffer unchanged" (document 02, 2.3)
+unfoldable pub copiesOut : State → ℕ → Ending
+copiesOut s k count w = runsWith (live s) s (block (s .blocks) (w .area) (source (live s)) k) count w
+
+unfoldable pub readOutcome : State → List ℕ → List ℕ → ℕ → ℕ → Outcome
+readOutcome s area output k budget =
     refusedOr (blockRefusals s area k output) s area output
-    (outcome 0 0 s area (block (s .blocks) area (source (live s)) k))
+    (carryOut (moveToLive s) budget s area output (copiesOut s k))
 
 unfoldable pub writeOutcome : State → List ℕ → List ℕ → ℕ → List ℕ → ℕ → Outcome
 writeOutcome s area output k bytes budget =

@@ -10,13 +10,13 @@ use Rattle.protocol.specs.declared.Answer.{Answer}
 use Rattle.protocol.specs.declared.Call.the-variants.{Read, Write}
 use Rattle.protocol.specs.declared.Power.the-variants.{Running}
 use Rattle.protocol.specs.declared.State.{State}
-use Rattle.protocol.specs.Geometry.{areaSize}
-use Rattle.protocol.specs.States.{live, source}
+use Rattle.protocol.specs.Geometry.{areaSize, block}
+use Rattle.protocol.specs.States.{currentOf, live, source}
 use Rattle.protocol.specs.Soundness.{InRange, Sound, Proper}
-use Rattle.protocol.specs.Stores.{Store, write}
-use Rattle.protocol.specs.Lists.{preparations, writeList}
-use Rattle.protocol.specs.Outcomes.{outcome}
-use Rattle.protocol.specs.Calls.{formatOutcome, writeOutcome, joinOutcome}
+use Rattle.protocol.specs.Stores.{Store, write, applyAll, made}
+use Rattle.protocol.specs.Lists.{moveToLive, preparations, writeList}
+use Rattle.protocol.specs.Outcomes.{Outcome, outcome, disksOf}
+use Rattle.protocol.specs.Calls.{formatOutcome, readOutcome, writeOutcome, joinOutcome}
 use Rattle.protocol.specs.Saving.{saveOutcome, assembleAnswer}
 use Rattle.protocol.specs.History.{Step, Cabinet, outcomeOf}
 use Rattle.protocol.specs.Reference.{Contents, replaced, carriedBy, afterWrites}
@@ -93,8 +93,37 @@ MembersTold =
 
 -- ---- reads
 
--- What the gate relies on: a read that gives 0 yields the reference block, the paper's book's.
+-- What the gate relies on: a read that gives 0 yields the reference block, the paper's book's, also where it moved.
 abbrev pub ReadsRight : Type 0
 ReadsRight = (n b : ℕ) (lent : List ℕ) → formatOutcome lent [] n b .answer .refusal ≡ 0
-    → (calls : List Step) (c : CallIn calls) (k : ℕ) → c .this .call ≡ Read k
+    → (calls : List Step) (c : CallIn calls) (k budget : ℕ) → c .this .call ≡ Read k budget
     → result n b lent c .answer .refusal ≡ 0 → result n b lent c .output ≡ contentsAt n b c k
+
+-- the same blocks on each disk in reach; those out of reach may hold anything
+abbrev pub SameInReach : State → List ℕ → List ℕ → Type 0
+SameInReach s area other =
+    (d k : ℕ) → has (s .online) d ≡ true → k < s .blocks → block (s .blocks) area d k ≡ block (s .blocks) other d k
+
+-- "Reads should notice a loss" (document 02, 2.3): what else a read does, whatever it is given.
+module _ (s : State) (area output : List ℕ) (k budget : ℕ) where
+  abbrev pub yielded : Outcome
+  yielded = readOutcome s area output k budget
+
+  abbrev pub stateLeft : State
+  stateLeft = yielded .answer .state
+
+  pub record Noticing : Type 0 where
+    -- after one that gives 0 every current disk is in reach
+    pub noticed : yielded .answer .refusal ≡ 0
+        → (d : ℕ) → has (currentOf (stateLeft .power)) d ≡ true → has (stateLeft .online) d ≡ true
+    -- "a read that is cut leaves the output buffer unchanged", and so does each other one that does not give 0
+    pub unfilled : yielded .answer .refusal ≢ 0 → yielded .output ≡ output
+    -- "the state is that of exactly so many stores", of those of a move to L
+    pub counted : disksOf stateLeft (yielded .area)
+        ≡ applyAll (s .blocks) (made (yielded .answer .stores) (moveToLive s)) (disksOf s area)
+    -- the output depends on no disk out of reach
+    pub from-reach : (other : List ℕ) → length area ≡ length other → SameInReach s area other
+        → yielded .output ≡ readOutcome s other output k budget .output
+
+abbrev pub ReadsNotice : Type 0
+ReadsNotice = (s : State) (area output : List ℕ) (k budget : ℕ) → Noticing s area output k budget

@@ -22,7 +22,7 @@ pub record Cabinet : Type 0 where
   pub area : List ℕ
 
 unfoldable pub perform : Call → List ℕ → List ℕ → Cabinet → Outcome
-perform (Read k) bytes output c = readOutcome (c .state) (c .area) output k
+perform (Read k budget) bytes output c = readOutcome (c .state) (c .area) output k budget
 perform (Write k budget) bytes output c = writeOutcome (c .state) (c .area) output k bytes budget
 perform (Join d budget) bytes output c = joinOutcome (c .state) (c .area) output d budget
 perform (Clean budget) bytes output c = cleanOutcome (c .state) (c .area) output budget

@@ -26,9 +26,10 @@ commits n s = forEach n s (λ d. commit d s ∷ [])
 unfoldable pub move : ℕ → ℕ → List Store
 move n s = proposals n s ++ commits n s
 
--- "if L differs from G, move to L"
-unfoldable pub moveToLive : ℕ → ℕ → ℕ → List Store
-moveToLive n g l = cond (eqb l g) [] (move n l)
+-- "if L differs from G, move to L". A read stores this and no more: "A read with L different from G now moves to L
+-- before it copies the block" (document 02, 2.3).
+unfoldable pub moveToLive : State → List Store
+moveToLive s = cond (eqb (live s) (currentOf (s .power))) [] (move (s .disks) (live s))
 
 -- ---- write
 
@@ -42,8 +43,7 @@ blockStores n l k bytes = forEach n l (λ d. write d k bytes ∷ [])
 
 -- what a write of block k does before its first block store
 unfoldable pub preparations : State → ℕ → List Store
-preparations s k =
-    moveToLive (s .disks) (currentOf (s .power)) (live s) ++ marks (s .disks) (s .labels) (live s) (regionOf k)
+preparations s k = moveToLive s ++ marks (s .disks) (s .labels) (live s) (regionOf k)
 
 unfoldable pub writeList : State → ℕ → List ℕ → List Store
 writeList s k bytes = preparations s k ++ blockStores (s .disks) (live s) k bytes
@@ -56,9 +56,7 @@ fill b l d = ascending b (λ k. copy (source l) d k ∷ [])
 
 -- "Join disk d: if L differs from G, move to L. Copy .. Then move to L with d. The dirty map of d is not touched."
 unfoldable pub joinList : State → ℕ → List Store
-joinList s d =
-    moveToLive (s .disks) (currentOf (s .power)) (live s)
-    ++ (fill (s .blocks) (live s) d ++ move (s .disks) (union (live s) (singleton d)))
+joinList s d = moveToLive s ++ (fill (s .blocks) (live s) d ++ move (s .disks) (union (live s) (singleton d)))
 
 -- ---- clean, the paper's quiet
 

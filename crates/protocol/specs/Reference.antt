@@ -52,7 +52,7 @@ carriedWrite k bytes budget s =
 -- the writes that a call carries out on this cabinet, in order: "The other seven calls leave the book as it is." So
 -- does a diagnosis.
 unfoldable pub carriedBy : Call → List ℕ → Cabinet → List CarriedWrite
-carriedBy (Read k) bytes c = []
+carriedBy (Read k budget) bytes c = []
 carriedBy (Write k budget) bytes c =
     cond (eqb (firstOf (blockRefusals (c .state) (c .area) k bytes)) 0) (carriedWrite k bytes budget (c .state) ∷ []) []
 carriedBy (Join d budget) bytes c = []

@@ -53,7 +53,7 @@ pub struct Diagnosis {
 // than the state's own, so that 256 is no disk 0; the budget is the paper's supply, 0 to 65,535. A write's data and a
 // read's output are lent beside the call.
 pub enum Call {
-    Read { block: usize },
+    Read { block: usize, budget: u16 },
     Write { block: usize, budget: u16 },
     Join { disk: usize, budget: u16 },
     Clean { budget: u16 },

@@ -7,7 +7,7 @@ use lib.ListN.{length, length-append}
 use Rattle.sets.specs.Sets.{union, singleton}
 use Rattle.protocol.specs.declared.State.{State}
 use Rattle.protocol.specs.Loops.{ascending}
-use Rattle.protocol.specs.States.{currentOf, live, source}
+use Rattle.protocol.specs.States.{live, source}
 use Rattle.protocol.specs.Stores.{copy}
 use Rattle.protocol.specs.Lists.{move, moveToLive, fill, joinList}
 use Rattle.protocol.proofs.Iterations.{listed-length}
@@ -16,7 +16,7 @@ use Rattle.budget.proofs.Runs.{in-sequence}
 
 module _ (s : State) (d : ℕ) where
   pub join-ran : (p : Progress) {q r t : Progress}
-      → q ≡ runAll (s .blocks) (moveToLive (s .disks) (currentOf (s .power)) (live s)) p
+      → q ≡ runAll (s .blocks) (moveToLive s) p
       → r ≡ runAll (s .blocks) (ascending (s .blocks) (λ k. copy (source (live s)) d k ∷ [])) q
       → t ≡ runAll (s .blocks) (move (s .disks) (union (live s) (singleton d))) r
       → t ≡ runAll (s .blocks) (joinList s d) p
@@ -25,16 +25,14 @@ module _ (s : State) (d : ℕ) where
       in-sequence (s .blocks) _ _ p first (in-sequence (s .blocks) (fill (s .blocks) (live s) d) _ q second third)
 
   pub join-length : length (joinList s d)
-      ≡ length (moveToLive (s .disks) (currentOf (s .power)) (live s)) + s .blocks
-      + length (move (s .disks) (union (live s) (singleton d)))
+      ≡ length (moveToLive s) + s .blocks + length (move (s .disks) (union (live s) (singleton d)))
   unfolding joinList fill
   join-length =
-      let moved = moveToLive (s .disks) (currentOf (s .power)) (live s) in
       let filled = fill (s .blocks) (live s) d in
       let last = move (s .disks) (union (live s) (singleton d)) in
       omega (
         arith,
-        length-append moved (filled ++ last),
+        length-append (moveToLive s) (filled ++ last),
         length-append filled last,
         listed-length (λ k. copy (source (live s)) d k) (s .blocks),
       )

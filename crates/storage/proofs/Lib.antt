@@ -1,4 +1,5 @@
 -- The laws of read, write and join.
+pub mod ReadAnswer
 pub mod WriteList
 pub mod JoinList
 pub mod Passed

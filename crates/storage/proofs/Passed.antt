@@ -7,10 +7,11 @@ use Rattle.refusals.specs.Refusals.{firstOf}
 use Rattle.protocol.specs.declared.State.{State}
 use Rattle.protocol.specs.Geometry.{blockSize}
 use Rattle.protocol.specs.States.{live, source}
+use Rattle.protocol.specs.Soundness.{Sound}
 use Rattle.protocol.specs.Calls.{blockRefusals, joinRefusals}
 use Rattle.protocol.proofs.States.{source-known}
 use Rattle.protocol.proofs.Soundness.{live-known}
-use Rattle.protocol.proofs.NotRefused.{block-passed, join-passed}
+use Rattle.protocol.proofs.NotRefused.{Runs, block-passed, join-passed}
 use Rattle.area.specs.Parts.{InArea}
 use Rattle.budget.specs.Sizes.{SoundCabinet}
 use Rattle.block_stores.proofs.Copying.{in-area}
@@ -23,11 +24,16 @@ module _ (s : State) (area : List ℕ) (k : ℕ) (bytes : List ℕ) (e : firstOf
       let pass = block-passed s area k bytes e in
       (record { fit = pass .fit; size = pass .size }, pass .known, pass .full)
 
-  pub read-passed : InArea (s .blocks) (source (live s)) k area × (length bytes ≡ blockSize)
+  pub read-passed : Sound s × Runs (s .power)
   read-passed =
-      let (cabinet, known, full) = write-passed in
-      let from = source-known (s .disks) (live s) (block-passed s area k bytes e .some) (live-known s (cabinet .fit)) in
-      (in-area (s .disks) (s .blocks) _ k area (sound-fits cabinet) from known, full)
+      let pass = block-passed s area k bytes e in
+      (pass .fit, pass .runs)
+
+  pub load-passed : InArea (s .blocks) (source (live s)) k area
+  load-passed =
+      let pass = block-passed s area k bytes e in
+      in-area (s .disks) (s .blocks) _ k area (sound-fits (write-passed .0))
+      (source-known (s .disks) (live s) (pass .some) (live-known s (pass .fit))) (pass .known)
 
 pub join-fits : (s : State) (area : List ℕ) (d : ℕ) → firstOf (joinRefusals s area d) ≡ 0
     → SoundCabinet s area × (0 < live s) × (d < s .disks)

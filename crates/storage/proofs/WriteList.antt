@@ -9,7 +9,7 @@ use Rattle.sets.proofs.Bounds.{below-difference}
 use Rattle.protocol.specs.declared.State.{State}
 use Rattle.protocol.specs.Geometry.{mostDisks, regionOf}
 use Rattle.protocol.specs.Loops.{forEach}
-use Rattle.protocol.specs.States.{currentOf, live}
+use Rattle.protocol.specs.States.{live}
 use Rattle.protocol.specs.Soundness.{Sound}
 use Rattle.protocol.specs.Stores.{write, mark}
 use Rattle.protocol.specs.Lists.{moveToLive, marks, blockStores, preparations, writeList}
@@ -26,7 +26,7 @@ module _ (s : State) (k : ℕ) (bytes : List ℕ) where
   unmarked = difference (live s) (dirtyDisks (s .disks) (s .labels) (regionOf k))
 
   pub write-ran : s .disks ≤ mostDisks → (p : Progress) {q r t : Progress}
-      → q ≡ runAll (s .blocks) (moveToLive (s .disks) (currentOf (s .power)) (live s)) p
+      → q ≡ runAll (s .blocks) (moveToLive s) p
       → r ≡ runAll (s .blocks) (forEach (s .disks) unmarked (λ d. mark d (regionOf k) ∷ [])) q
       → t ≡ runAll (s .blocks) (forEach (s .disks) (live s) (λ d. write d k bytes ∷ [])) r
       → t ≡ runAll (s .blocks) (writeList s k bytes) p
@@ -35,11 +35,10 @@ module _ (s : State) (k : ℕ) (bytes : List ℕ) where
       let b = s .blocks in
       rw (where-lacks (s .labels) (regionOf k) (s .disks) few (live s) (λ d. mark d (regionOf k)))
       (in-sequence b _ _ p
-      (in-sequence b (moveToLive (s .disks) (currentOf (s .power)) (live s)) _ p first second) third)
+      (in-sequence b (moveToLive s) _ p first second) third)
 
   pub write-length : Sound s
-      → length (writeList s k bytes)
-      ≡ length (moveToLive (s .disks) (currentOf (s .power)) (live s)) + size unmarked + size (live s)
+      → length (writeList s k bytes) ≡ length (moveToLive s) + size unmarked + size (live s)
   unfolding writeList preparations marks blockStores
   write-length fit =
       let n = s .disks in
@@ -48,8 +47,8 @@ module _ (s : State) (k : ℕ) (bytes : List ℕ) where
       rw (where-lacks (s .labels) (regionOf k) n (fit .range .disks) l (λ d. mark d (regionOf k)))
       (omega (
         arith,
-        length-append (moveToLive n (currentOf (s .power)) l ++ lacking) (forEach n l (λ d. write d k bytes ∷ [])),
-        length-append (moveToLive n (currentOf (s .power)) l) lacking,
+        length-append (moveToLive s ++ lacking) (forEach n l (λ d. write d k bytes ∷ [])),
+        length-append (moveToLive s) lacking,
         for-length n unmarked (λ d. mark d (regionOf k)) (below-difference l _ n (live-known s fit)),
         for-length n l (λ d. write d k bytes) (live-known s fit),
       ))

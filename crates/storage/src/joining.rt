@@ -28,17 +28,14 @@ fn join_stores(s: State, area: &mut [u8], d: usize, budget: u16) -> Answer
         ≡ carryOut (joinList s d) budget s (now (area .entry)) output
         (runsWith (union (live s) (singleton d)) s output)) ⌝ }
 {
-    let power = s.power;
     let size = size_of(s);
-    let n = size.disks;
-    let current = state::current(power);
     let live = state::live(s);
     let new = sets::singleton(d);
     let joined = sets::union(live, new);
-    let stores = live_length(current, live) + size.blocks + move_length(joined);
-    let run = move_to_live(started(s, budget), n, current, live);
+    let stores = live_length(s) + size.blocks + move_length(joined);
+    let run = move_to_live(started(s, budget), s);
     let run = block_stores::copy_disk(run, area, size, state::source(live), d);
-    let run = move_to(run, n, joined);
+    let run = move_to(run, size.disks, joined);
     ended(s, run, stores, joined, budget)
 }
 

@@ -6,12 +6,16 @@ ghost use Prim.Native.Nat.{ℕ, _*_, _≤_};
 ghost use lib.ListN.{length};
 ghost use Rattle.sets.specs.Sets.{below};
 ghost use Rattle.protocol.specs.Geometry.{mostDisks};
+ghost use Rattle.protocol.specs.Soundness.{Sound};
 ghost use Rattle.protocol.specs.Lists.{move, moveToLive};
 ghost use Rattle.budget.specs.Runs.{progress, runAll};
 use budget::Run;
 use changes::Change;
+use protocol::State;
 use sets::DISKS;
 use sets::Mask;
+use state::current;
+use state::live;
 
 // "for each disk of S, ascending, store T = S; then for each disk of S, ascending, store C = S and T = 0"
 pub(crate) fn move_to(run: Run, n: usize, set: Mask) -> Run
@@ -23,15 +27,16 @@ pub(crate) fn move_to(run: Run, n: usize, set: Mask) -> Run
 }
 
 // "if L differs from G, move to L"
-pub(crate) fn move_to_live(run: Run, n: usize, current: Mask, live: Mask) -> Run
-    requires { do ⌜ n ≤ (← ⟦DISKS⟧) ⌝ }
-    ensures { λ r. ⌜ ((b : ℕ) (area : List ℕ) → progress r area
-        ≡ runAll b (moveToLive n current live) (progress run area)) ⌝ }
+pub(crate) fn move_to_live(run: Run, s: State) -> Run
+    requires { do ⌜ s .disks ≤ (← ⟦DISKS⟧) ⌝ }
+    ensures { λ r. ⌜ ((b : ℕ) (area : List ℕ) → progress r area ≡ runAll b (moveToLive s) (progress run area)) ⌝ }
 {
-    if live == current {
+    let power = s.power;
+    let live = live(s);
+    if live == current(power) {
         return run;
     }
-    move_to(run, n, live)
+    move_to(run, s.disks as usize, live)
 }
 
 // How many stores a move has.
@@ -41,10 +46,12 @@ pub(crate) fn move_length(set: Mask) -> usize
     2 * sets::size(set)
 }
 
-pub(crate) fn live_length(current: Mask, live: Mask) -> usize
-    ensures { λ r. ⌜ ((n : ℕ) → below live n ≡ true → r ≡ length (moveToLive n current live)) × (r ≤ 2 * mostDisks) ⌝ }
+pub(crate) fn live_length(s: State) -> usize
+    ensures { λ r. ⌜ (Sound s → r ≡ length (moveToLive s)) × (r ≤ 2 * mostDisks) ⌝ }
 {
-    if live == current {
+    let power = s.power;
+    let live = live(s);
+    if live == current(power) {
         0
     } else {
         move_length(live)

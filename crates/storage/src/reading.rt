@@ -1,27 +1,59 @@
 // Read.
 ghost use mathlib.Core.Path.{_≡_};
-ghost use Rattle.protocol.specs.Outcomes.{yields};
+ghost use mathlib.Core.List.{List};
+ghost use Prim.Native.Nat.{ℕ};
+ghost use Rattle.protocol.specs.declared.Power.the-variants.{Running};
+ghost use Rattle.protocol.specs.States.{currentOf, live};
+ghost use Rattle.protocol.specs.Soundness.{Sound};
+ghost use Rattle.protocol.specs.Lists.{moveToLive};
+ghost use Rattle.protocol.specs.Outcomes.{yields, runsWith, carryOut};
 ghost use Rattle.protocol.specs.Calls.{readOutcome};
 use crate::checks::block_refusal;
+use crate::moves::move_length;
+use crate::moves::move_to;
 use area::load;
 use area::to_slice;
+use budget::ended;
+use budget::started;
 use protocol::Answer;
 use protocol::State;
+use state::current;
 use state::live;
 use state::source;
 use state::without_stores;
 
-// "Read copies block k from the lowest member of L."
-pub fn read(s: State, area: &[u8], k: usize, output: &mut [u8]) -> Answer
+// "A read with L different from G now moves to L before it copies the block" (document 02, 2.3). Most reads find L = G:
+// these hand the state on as it is, which is quicker than to carry out an empty list. A move changes labels only, so a
+// read is lent the area to look at, and not to change.
+fn read_stores(s: State, budget: u16) -> Answer
+    requires { ⌜ Sound s × (s .power ≡ Running (currentOf (s .power))) ⌝ }
+    ensures { λ r. ⌜ ((area output : List ℕ) → yields r area output
+        ≡ carryOut (moveToLive s) budget s area output (runsWith (live s) s output)) ⌝ }
+{
+    let power = s.power;
+    let live = live(s);
+    if live == current(power) {
+        return without_stores(s, 0);
+    }
+    let stores = move_length(live);
+    let run = move_to(started(s, budget), s.disks as usize, live);
+    ended(s, run, stores, live, budget)
+}
+
+// "Read copies block k from the lowest member of L.": only when its stores are all made, for "a read that is cut leaves
+// the output buffer unchanged".
+pub fn read(s: State, area: &[u8], k: usize, output: &mut [u8], budget: u16) -> Answer
     ensures { λ r. ⌜ yields r (now (area .entry)) (now (output .exit))
-        ≡ readOutcome s (now (area .entry)) (now (output .entry)) k ⌝ }
+        ≡ readOutcome s (now (area .entry)) (now (output .entry)) k budget ⌝ }
 {
     let refusal = block_refusal(s, area.len(), k, output.len());
-    if refusal == 0 {
+    if refusal != 0 {
+        return without_stores(s, refusal);
+    }
+    let answer = read_stores(s, budget);
+    if answer.refusal == 0 {
         let from = source(live(s));
         to_slice(output, load(area, s.blocks as usize, from, k));
-        without_stores(s, 0)
-    } else {
-        without_stores(s, refusal)
     }
+    answer
 }

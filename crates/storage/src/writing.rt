@@ -31,16 +31,14 @@ fn write_stores(s: State, area: &mut [u8], k: usize, bytes: &[u8], budget: u16) 
         ≡ carryOut (writeList s k (now (bytes .entry))) budget s (now (area .entry)) output
         (runsWith (live s) s output)) ⌝ }
 {
-    let power = s.power;
     let labels = s.labels;
     let size = size_of(s);
     let n = size.disks;
-    let current = state::current(power);
     let live = state::live(s);
     let region = k / REGION_SIZE;
     let unmarked = sets::difference(live, dirty_disks(labels, n, region));
-    let stores = live_length(current, live) + sets::size(unmarked) + sets::size(live);
-    let run = move_to_live(started(s, budget), n, current, live);
+    let stores = live_length(s) + sets::size(unmarked) + sets::size(live);
+    let run = move_to_live(started(s, budget), s);
     let run = changes::store_labels(run, n, unmarked, Change::Mark(region));
     let run = block_stores::store_blocks(run, area, size, live, k, from_slice(bytes));
     ended(s, run, stores, live, budget)

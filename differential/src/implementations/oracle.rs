@@ -25,7 +25,7 @@ impl Implementation for Reference {
         let (mut reading, mut told) = (Reading::default(), Diagnosis::default());
         let answer = match case.call {
             Call::Fresh => kept(&mut cabinet.state, fresh(rules, disks, blocks, &mut cabinet.area)),
-            Call::Read => cabinet.read(number, &mut buffer),
+            Call::Read => cabinet.read(number, &mut buffer, supply),
             Call::Write => cabinet.write(number, &buffer, supply),
             Call::Join => cabinet.join(number, supply),
             Call::Quiet => cabinet.quiet(supply),

@@ -17,7 +17,7 @@ impl Implementation for Plain {
         let (mut reading, mut told) = (Reading::default(), Diagnosis::default());
         let answer = match case.call {
             Call::Fresh => plain::fresh(case.disks, case.blocks, area),
-            Call::Read => plain::read(state, area, case.number, buffer),
+            Call::Read => plain::read(state, area, case.number, buffer, case.supply),
             Call::Write => plain::write(state, area, case.number, buffer, case.supply),
             Call::Join => plain::join(state, area, case.number, case.supply),
             Call::Quiet => plain::quiet(state, case.supply),

@@ -20,7 +20,7 @@ impl Implementation for Proved {
         let state = to_product(case.state);
         let answer = match case.call {
             Call::Fresh => cabinet::State::format(case.disks, case.blocks, area),
-            Call::Read => state.read(area, case.number, buffer),
+            Call::Read => state.read(area, case.number, buffer, case.supply),
             Call::Write => state.write(area, case.number, buffer, case.supply),
             Call::Join => state.join(area, case.number, case.supply),
             Call::Quiet => state.clean(case.supply),

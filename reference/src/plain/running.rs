@@ -7,15 +7,23 @@ use super::stores::{carry_out, move_to, move_to_live, turn_dirty, Ended};
 use crate::refusal::*;
 use crate::state::{BLOCK, REGION};
 
-/// Read: 1, 2, 3, 6, 9, 12. "Read copies block k from the lowest member of L."
-pub fn read(state: State, area: &[u8], block: usize, output: &mut [u8]) -> Answer {
-    match live_for_block(&state, area.len(), block, output.len()) {
-        Err(number) => Answer::of(number, state),
-        Ok(live) => {
-            output.copy_from_slice(&area[state.block_start(lowest(live), block)..][..BLOCK]);
-            Answer::of(DONE, state)
-        }
+/// Read: 1, 2, 3, 6, 9, 12, 15. "A read with L different from G now moves to L before it copies the block", that of the
+/// lowest member of L. Most reads find L = G, and have no stores to carry out.
+pub fn read(state: State, area: &[u8], block: usize, output: &mut [u8], supply: u16) -> Answer {
+    let live = live_for_block(&state, area.len(), block, output.len());
+    let answer = if live == Ok(state.current) {
+        Answer::of(DONE, state)
+    } else {
+        carry_out(state, live, supply, |live, state, supply| {
+            move_to(state, live, supply)?;
+            Ok(live)
+        })
+    };
+    if answer.result == DONE {
+        let start = state.block_start(lowest(answer.state.current), block);
+        output.copy_from_slice(&area[start..][..BLOCK]);
     }
+    answer
 }
 
 /// Write: 1, 2, 3, 6, 9, 12, 15. "If L differs from G, move to L. Then set the region's dirty bit on each disk of L,

@@ -9,7 +9,10 @@ pub with-two-spec : {M : Type 1} → statement M
 unfolding commandWith
 with-two-spec =
     tie.close
-    (tie.spec (search needs)
+    (tie.spec (search needs) (search needs)
     (λ c. rw (c .match .keys1))
     (λ c. rw (c .plain .ensures, c .before .match .keys2))
-    (λ c. rw (ne-eqb _ _ (c .match .rest .0 .1), ne-eqb _ _ (c .match .rest .1))))
+    (λ c. rw (c .plain2 .ensures, c .before .match .keys3))
+    (λ c.
+    let not = c .match .rest in
+    rw (ne-eqb _ _ (not .0 .0 .1), ne-eqb _ _ (not .0 .1), ne-eqb _ _ (not .1))))

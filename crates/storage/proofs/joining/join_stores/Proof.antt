@@ -12,26 +12,20 @@ use Rattle.storage.proofs.joining.join_stores.Tie as tie
 
 add-stores : tie.Need-add-stores
 add-stores c =
-    let sized = c .before .before .before .before .before .before in
+    let sized = c .before .before .before .before .before in
     let start = sized .before .before in
     rw (sized .size-of .ensures) (omega (arith, start .pre .0 .fit .range .blocks))
 
 add-stores-2 : tie.Need-add-stores-2
 add-stores-2 c =
-    let sized = c .before .before .before .before .before .before .before in
+    let sized = c .before .before .before .before .before .before in
     let start = sized .before .before in
     rw (sized .size-of .ensures) (omega (arith, start .pre .0 .fit .range .blocks))
-
-move-to-live-requires : tie.Need-move-to-live-requires
-move-to-live-requires c κs =
-    let sized = c .before .before .before .before .before .before .before .before in
-    let start = sized .before .before in
-    rw (sized .size-of .ensures) (start .pre .0 .fit .range .disks)
 
 copy-disk-requires : tie.Need-copy-disk-requires
 copy-disk-requires c κs =
     let at-live = c .before .before .before .before .before .before .before .before .before in
-    let sized = at-live .before .before in
+    let sized = at-live .before in
     let start = sized .before .before in
     let s = start .args .s in
     let fit = start .pre .0 .fit in
@@ -41,7 +35,7 @@ copy-disk-requires c κs =
 move-to-requires : tie.Need-move-to-requires
 move-to-requires c κs =
     let sized =
-    c .before .before .before .before .before .before .before .before .before .before .before .before .before .before in
+    c .before .before .before .before .before .before .before .before .before .before .before .before .before in
     let start = sized .before .before in
     rw (sized .size-of .ensures) (start .pre .0 .fit .range .disks)
 
@@ -57,8 +51,7 @@ returns c output =
     let at-joined = at-length .before in
     let at-new = at-joined .before in
     let at-live = at-new .before in
-    let at-current = at-live .before in
-    let sized = at-current .before in
+    let sized = at-live .before in
     let start = sized .before .before in
     let s = start .args .s in
     let d = start .args .d in
@@ -66,15 +59,13 @@ returns c output =
     let fit = start .pre .0 .fit in
     let live = at-live .live .ensures in
     let size = sized .size-of .ensures in
-    let current = at-current .current .ensures in
     let new = at-new .singleton .ensures in
     let joined = at-joined .union .ensures in
-    let moved =
-    rw (size, live, current, begun .started .ensures) at (at-move .move-to-live .ensures (s .blocks) area) in
+    let moved = rw (begun .started .ensures) at (at-move .move-to-live .ensures (s .blocks) area) in
     let filled = rw (size, at-source .source .ensures, live) at (at-copies .copy-disk .ensures) in
     let last =
     rw (size, joined, live, new) at (at-last .move-to .ensures (s .blocks) (at-copies .copy-disk .last .1 .0)) in
-    let moves = rw (live, current) at (at-length .live-length .ensures .0 (s .disks) (rw live (live-known s fit))) in
+    let moves = at-length .live-length .ensures .0 fit in
     let known = below-with _ d (s .disks) (live-known s fit) (start .pre .2) in
     let ends = rw (joined, live, new) at (at-end .move-length .ensures .0 (s .disks) (rw (joined, live, new) known)) in
     rw (c .ended .ensures, joined, live, new)
@@ -84,5 +75,5 @@ returns c output =
 pub join-stores-spec : {M : Type 1} → statement M
 join-stores-spec =
     tie.close (tie.spec (search needs) (search needs) (search needs) (search needs) (search needs)
-    (search needs) add-stores (search needs) add-stores-2 (search needs) move-to-live-requires (search needs)
+    add-stores (search needs) add-stores-2 (search needs) (search needs) (search needs)
     copy-disk-requires move-to-requires (search needs) (search needs) returns)

@@ -2,7 +2,6 @@
 use native.Mathlib.Omega.{arith}
 use borrow.Author.Needs.{needs}
 use Rattle.protocol.specs.Geometry.{regionOf}
-use Rattle.protocol.proofs.Soundness.{live-known}
 use Rattle.budget.proofs.Carrying.{carried}
 use Rattle.budget.proofs.Sizes.{sound-fits}
 use Rattle.storage.proofs.WriteList.{write-ran, write-length}
@@ -11,18 +10,12 @@ use Rattle.storage.proofs.writing.write_stores.Tie as tie
 
 dirty-disks-requires : tie.Need-dirty-disks-requires
 dirty-disks-requires c κs =
-    rw (c .before .before .size-of .ensures)
-    (c .before .before .before .before .before .before .pre .0 .fit .range .disks)
-
-move-to-live-requires : tie.Need-move-to-live-requires
-move-to-live-requires c κs =
-    let sized = c .before .before .before .before .before .before .before .before in
-    let start = sized .before .before .before .before in
-    rw (sized .size-of .ensures) (start .pre .0 .fit .range .disks)
+    let sized = c .before in
+    rw (sized .size-of .ensures) (sized .before .before .before .before .pre .0 .fit .range .disks)
 
 store-labels-requires : tie.Need-store-labels-requires
 store-labels-requires c κs =
-    let sized = c .before .before .before .before .before .before .before .before .before in
+    let sized = c .before .before .before .before .before .before .before .before in
     let start = sized .before .before .before .before in (
       rw (sized .size-of .ensures) (start .pre .0 .fit .range .disks),
       omega (arith, start .pre .0 .fit .range .blocks, start .pre .1),
@@ -30,7 +23,7 @@ store-labels-requires c κs =
 
 store-blocks-requires : tie.Need-store-blocks-requires
 store-blocks-requires c κs =
-    let sized = c .before .before .before .before .before .before .before .before .before .before .before .before in
+    let sized = c .before .before .before .before .before .before .before .before .before .before .before in
     let start = sized .before .before .before .before in
     rw (sized .size-of .ensures) (sound-fits (start .pre .0), start .pre .1)
 
@@ -48,8 +41,7 @@ returns c output =
     let at-unmarked = at-length .before in
     let at-dirty = at-unmarked .before in
     let at-live = at-dirty .before in
-    let at-current = at-live .before in
-    let sized = at-current .before in
+    let sized = at-live .before in
     let start = sized .before .before .before .before in
     let s = start .args .s in
     let k = start .args .k in
@@ -58,14 +50,12 @@ returns c output =
     let fit = start .pre .0 .fit in
     let live = at-live .live .ensures in
     let size = sized .size-of .ensures in
-    let current = at-current .current .ensures in
     let unmarked = at-unmarked .difference .ensures in
     let dirty = at-dirty .dirty-disks .ensures in
-    let moved =
-    rw (size, live, current, begun .started .ensures) at (at-move .move-to-live .ensures (s .blocks) area) in
+    let moved = rw (begun .started .ensures) at (at-move .move-to-live .ensures (s .blocks) area) in
     let marked = rw (size, unmarked, live, dirty, size) at (at-labels .store-labels .ensures (s .blocks) area) in
     let stored = rw (size, live, at-block .from-slice .ensures) at (at-blocks .store-blocks .ensures) in
-    let moves = rw (live, current) at (at-length .live-length .ensures .0 (s .disks) (rw live (live-known s fit))) in
+    let moves = at-length .live-length .ensures .0 fit in
     let marks = rw (unmarked, live, dirty, size) at (at-count .size .ensures .0) in
     let blocks = rw live at (at-count2 .size2 .ensures .0) in
     rw (c .ended .ensures, live)
@@ -75,7 +65,6 @@ returns c output =
 
 pub write-stores-spec : {M : Type 1} → statement M
 write-stores-spec =
-    tie.close (tie.spec (search needs) (search needs) (search needs) dirty-disks-requires (search needs)
+    tie.close (tie.spec (search needs) (search needs) dirty-disks-requires (search needs) (search needs)
     (search needs) (search needs) (search needs) (search needs) (search needs) (search needs)
-    move-to-live-requires store-labels-requires (search needs) store-blocks-requires (search needs)
-    (search needs) returns)
+    store-labels-requires (search needs) store-blocks-requires (search needs) (search needs) returns)

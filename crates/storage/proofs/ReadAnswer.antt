@@ -1,0 +1,64 @@
+-- A read's answer, once its move was carried out: with the block in the output where all stores were made, and the
+-- output as it was where the power went. Assumes nothing.
+use mathlib.Core.Path.{_≡_, sym, ap, _∙_}
+use mathlib.Core.Logic.{_≢_}
+use mathlib.Core.List.{List, []}
+use Prim.Native.Nat.{ℕ, _≤_, _<_}
+use native.Mathlib.Omega.{arith}
+use native.Mathlib.Decide.{decLt}
+use lib.ListN.{length}
+use borrow.Author.Tests.{eq-eqb}
+use Rattle.protocol.specs.declared.Answer.{Answer}
+use Rattle.protocol.specs.declared.State.{State}
+use Rattle.protocol.specs.declared.Power.the-variants.{Running}
+use Rattle.protocol.specs.Geometry.{block}
+use Rattle.protocol.specs.States.{withLabels, currentOf, live, source}
+use Rattle.protocol.specs.Stores.{applyAll}
+use Rattle.protocol.specs.Lists.{moveToLive}
+use Rattle.protocol.specs.Outcomes.{Outcome, yields, outcome, runsWith, carryOut}
+use Rattle.protocol.specs.Calls.{copiesOut}
+use Rattle.protocol.proofs.Outcomes.{is-cut, is-whole}
+
+-- where L is G there is no store to make
+pub all-live : (s : State) (budget : ℕ) (area output : List ℕ) → s .power ≡ Running (currentOf (s .power))
+    → live s ≡ currentOf (s .power)
+    → yields (record { refusal = 0; stores = 0; state = s }) area output
+    ≡ carryOut (moveToLive s) budget s area output (runsWith (live s) s output)
+unfolding moveToLive applyAll
+all-live s budget area output runs same =
+    rw (eq-eqb _ _ same)
+    (ap (λ power. outcome 0 0 (withLabels s (s .labels) power) area output) (runs ∙ ap Running (sym same))
+    ∙ sym (is-whole [] budget s area output (runsWith (live s) s output) (omega arith)))
+
+module _ (s : State) (k budget : ℕ) (area output : List ℕ) (r : Answer)
+    (moved : yields r area output ≡ carryOut (moveToLive s) budget s area output (runsWith (live s) s output)) where
+  abbrev stores : ℕ
+  stores = length (moveToLive s)
+
+  abbrev answered : Outcome
+  answered = carryOut (moveToLive s) budget s area output (copiesOut s k)
+
+  pub filled : r .refusal ≡ 0 → yields r area (block (s .blocks) area (source (live s)) k) ≡ answered
+  unfolding copiesOut
+  filled done = go (decLt budget stores)
+    where
+      go : Dec (budget < stores) → yields r area (block (s .blocks) area (source (live s)) k) ≡ answered
+      go (yes l) =
+          let cut = ap (λ o. o .answer .refusal) (moved ∙ is-cut (moveToLive s) budget s area output _ l) in
+          absurd (omega (arith, done, cut))
+      go (no g) =
+          let l : stores ≤ budget = omega arith in
+          ap (λ o. yields (o .answer) (o .area) (block (s .blocks) (o .area) (source (live s)) k))
+          (moved ∙ is-whole (moveToLive s) budget s area output _ l)
+          ∙ sym (is-whole (moveToLive s) budget s area output (copiesOut s k) l)
+
+  pub kept : r .refusal ≢ 0 → yields r area output ≡ answered
+  kept refused = go (decLt budget stores)
+    where
+      go : Dec (budget < stores) → yields r area output ≡ answered
+      go (yes l) =
+          moved ∙ is-cut (moveToLive s) budget s area output _ l
+          ∙ sym (is-cut (moveToLive s) budget s area output (copiesOut s k) l)
+      go (no g) =
+          let l : stores ≤ budget = omega arith in
+          absurd (refused (ap (λ o. o .answer .refusal) (moved ∙ is-whole (moveToLive s) budget s area output _ l)))
