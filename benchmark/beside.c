@@ -9,12 +9,31 @@
 
 enum { RUNS = 1000, CALLS = 100, DISKS = 8, BLOCKS = 64, LAST = DISKS - 1 };
 
-/* A read before request 2.3 of document 02 takes no budget: one that is passed goes in a register that it leaves. */
-struct cabinet_answer before_read(struct cabinet_state, const uint8_t *, size_t, size_t, uint8_t *, size_t, uint16_t);
-struct cabinet_answer before_write(struct cabinet_state, uint8_t *, size_t, size_t, const uint8_t *, size_t, uint16_t);
-struct cabinet_answer before_join(struct cabinet_state, uint8_t *, size_t, size_t, uint16_t);
-struct cabinet_answer before_clean(struct cabinet_state, uint16_t);
-struct cabinet_answer before_restart(struct cabinet_state, uint8_t *, size_t, uint16_t);
+typedef struct cabinet_answer read_call(struct cabinet_state, const uint8_t *, size_t, size_t, uint8_t *, size_t,
+                                        uint16_t);
+typedef struct cabinet_answer write_call(struct cabinet_state, uint8_t *, size_t, size_t, const uint8_t *, size_t,
+                                         uint16_t);
+typedef struct cabinet_answer join_call(struct cabinet_state, uint8_t *, size_t, size_t, uint16_t);
+typedef struct cabinet_answer clean_call(struct cabinet_state, uint16_t);
+typedef struct cabinet_answer restart_call(struct cabinet_state, uint8_t *, size_t, uint16_t);
+
+struct build {
+    read_call *read;
+    write_call *write;
+    join_call *join;
+    clean_call *clean;
+    restart_call *restart;
+};
+
+/* Before request 2.3 of document 02 a read took no budget: one that is passed lies behind all that it looks at. */
+read_call before_read;
+write_call before_write;
+join_call before_join;
+clean_call before_clean;
+restart_call before_restart;
+
+static const struct build before = {before_read, before_write, before_join, before_clean, before_restart};
+static const struct build now = {cabinet_read, cabinet_write, cabinet_join, cabinet_clean, cabinet_restart};
 
 enum call { READ, WRITE, JOIN, CLEAN, RESTART };
 
@@ -25,33 +44,18 @@ struct row {
 };
 
 static uint8_t area[DISKS * BLOCKS * CABINET_BLOCK_SIZE], block[CABINET_BLOCK_SIZE];
-/* Read anew for each call, so that none is known beforehand. */
-static volatile size_t number = 21, disk = LAST;
-static volatile uint16_t budget = UINT16_MAX;
 
-static struct cabinet_answer before(enum call call, struct cabinet_state s)
+static struct cabinet_answer make(const struct build *b, const struct row *row)
 {
-    switch (call) {
-    case READ: return before_read(s, area, sizeof area, number, block, sizeof block, budget);
-    case WRITE: return before_write(s, area, sizeof area, number, block, sizeof block, budget);
-    case JOIN: return before_join(s, area, sizeof area, disk, budget);
-    case CLEAN: return before_clean(s, budget);
-    default: return before_restart(s, area, sizeof area, budget);
+    const size_t number = 21;
+    switch (row->call) {
+    case READ: return b->read(row->state, area, sizeof area, number, block, sizeof block, UINT16_MAX);
+    case WRITE: return b->write(row->state, area, sizeof area, number, block, sizeof block, UINT16_MAX);
+    case JOIN: return b->join(row->state, area, sizeof area, LAST, UINT16_MAX);
+    case CLEAN: return b->clean(row->state, UINT16_MAX);
+    default: return b->restart(row->state, area, sizeof area, UINT16_MAX);
     }
 }
-
-static struct cabinet_answer now(enum call call, struct cabinet_state s)
-{
-    switch (call) {
-    case READ: return cabinet_read(s, area, sizeof area, number, block, sizeof block, budget);
-    case WRITE: return cabinet_write(s, area, sizeof area, number, block, sizeof block, budget);
-    case JOIN: return cabinet_join(s, area, sizeof area, disk, budget);
-    case CLEAN: return cabinet_clean(s, budget);
-    default: return cabinet_restart(s, area, sizeof area, budget);
-    }
-}
-
-typedef struct cabinet_answer build(enum call, struct cabinet_state);
 
 static double nanoseconds(void)
 {
@@ -61,11 +65,11 @@ static double nanoseconds(void)
 }
 
 /* The nanoseconds of a call, over a run of them. */
-static double run(build *side, const struct row *row)
+static double run(const struct build *b, const struct row *row)
 {
     double start = nanoseconds();
     for (int i = 0; i < CALLS; i++)
-        side(row->call, row->state);
+        make(b, row);
     return (nanoseconds() - start) / CALLS;
 }
 
@@ -81,19 +85,24 @@ static double median(double *times)
     return (times[RUNS / 2 - 1] + times[RUNS / 2]) / 2;
 }
 
+static int same_answers(const struct row *row)
+{
+    struct cabinet_answer old = make(&before, row), new = make(&now, row);
+    return old.refusal == new.refusal && old.stores == new.stores
+           && memcmp(&old.state, &new.state, sizeof old.state) == 0;
+}
+
 /* Where the two builds do not give the same answer, their times say nothing of each other. */
 static void time_row(const struct row *row)
 {
     static double times[2][RUNS];
-    struct cabinet_answer old = before(row->call, row->state), new = now(row->call, row->state);
-    for (int i = 0; i < RUNS; i++)
-        for (int turn = 0; turn < 2; turn++) {
-            int side = (turn + i) % 2;
-            times[side][i] = run(side ? now : before, row);
-        }
+    for (int i = 0; i < RUNS; i++) {
+        times[0][i] = run(&before, row);
+        times[1][i] = run(&now, row);
+    }
     double was = median(times[0]), is = median(times[1]);
     printf("| %s | %.1f | %.1f | ", row->name, was, is);
-    if (memcmp(&old, &new, sizeof old) == 0)
+    if (same_answers(row))
         printf("%.3f |\n", is / was);
     else
         printf("another answer |\n");

@@ -3,10 +3,8 @@
 use mathlib.Core.Path.{_≡_, sym, ap, _∙_}
 use mathlib.Core.Logic.{_≢_}
 use mathlib.Core.List.{List, []}
-use Prim.Native.Nat.{ℕ, _≤_, _<_}
+use Prim.Native.Nat.{ℕ}
 use native.Mathlib.Omega.{arith}
-use native.Mathlib.Decide.{decLt}
-use lib.ListN.{length}
 use borrow.Author.Tests.{eq-eqb}
 use Rattle.protocol.specs.declared.Answer.{Answer}
 use Rattle.protocol.specs.declared.State.{State}
@@ -17,7 +15,7 @@ use Rattle.protocol.specs.Stores.{applyAll}
 use Rattle.protocol.specs.Lists.{moveToLive}
 use Rattle.protocol.specs.Outcomes.{Outcome, yields, outcome, runsWith, carryOut}
 use Rattle.protocol.specs.Calls.{copiesOut}
-use Rattle.protocol.proofs.Outcomes.{is-cut, is-whole}
+use Rattle.protocol.proofs.Outcomes.{is-cut, is-whole, cut-or-whole}
 
 -- where L is G there is no store to make
 pub all-live : (s : State) (budget : ℕ) (area output : List ℕ) → s .power ≡ Running (currentOf (s .power))
@@ -32,33 +30,26 @@ all-live s budget area output runs same =
 
 module _ (s : State) (k budget : ℕ) (area output : List ℕ) (r : Answer)
     (moved : yields r area output ≡ carryOut (moveToLive s) budget s area output (runsWith (live s) s output)) where
-  abbrev stores : ℕ
-  stores = length (moveToLive s)
-
   abbrev answered : Outcome
   answered = carryOut (moveToLive s) budget s area output (copiesOut s k)
 
-  pub filled : r .refusal ≡ 0 → yields r area (block (s .blocks) area (source (live s)) k) ≡ answered
+  abbrev wanted : List ℕ → List ℕ
+  wanted bytes = block (s .blocks) bytes (source (live s)) k
+
+  pub filled : r .refusal ≡ 0 → yields r area (wanted area) ≡ answered
   unfolding copiesOut
-  filled done = go (decLt budget stores)
-    where
-      go : Dec (budget < stores) → yields r area (block (s .blocks) area (source (live s)) k) ≡ answered
-      go (yes l) =
-          let cut = ap (λ o. o .answer .refusal) (moved ∙ is-cut (moveToLive s) budget s area output _ l) in
-          absurd (omega (arith, done, cut))
-      go (no g) =
-          let l : stores ≤ budget = omega arith in
-          ap (λ o. yields (o .answer) (o .area) (block (s .blocks) (o .area) (source (live s)) k))
-          (moved ∙ is-whole (moveToLive s) budget s area output _ l)
-          ∙ sym (is-whole (moveToLive s) budget s area output (copiesOut s k) l)
+  filled done =
+      cut-or-whole (moveToLive s) budget s area output (copiesOut s k) (λ o. yields r area (wanted area) ≡ o)
+      (λ l.
+      let cut = ap (λ o. o .answer .refusal) (moved ∙ is-cut (moveToLive s) budget s area output _ l) in
+      absurd (omega (arith, done, cut)))
+      (λ l. ap (λ o. yields (o .answer) (o .area) (wanted (o .area)))
+      (moved ∙ is-whole (moveToLive s) budget s area output _ l))
 
   pub kept : r .refusal ≢ 0 → yields r area output ≡ answered
-  kept refused = go (decLt budget stores)
-    where
-      go : Dec (budget < stores) → yields r area output ≡ answered
-      go (yes l) =
-          moved ∙ is-cut (moveToLive s) budget s area output _ l
-          ∙ sym (is-cut (moveToLive s) budget s area output (copiesOut s k) l)
-      go (no g) =
-          let l : stores ≤ budget = omega arith in
-          absurd (refused (ap (λ o. o .answer .refusal) (moved ∙ is-whole (moveToLive s) budget s area output _ l)))
+  kept refused =
+      cut-or-whole (moveToLive s) budget s area output (copiesOut s k) (λ o. yields r area output ≡ o)
+      (λ l. moved ∙ is-cut (moveToLive s) budget s area output _ l)
+      (λ l.
+      let whole = ap (λ o. o .answer .refusal) (moved ∙ is-whole (moveToLive s) budget s area output _ l) in
+      absurd (refused whole))
