@@ -22,7 +22,7 @@ int main(void)
     s = expect(CABINET_DONE, "write", cabinet_write(s, area, sizeof area, 0, sevens, sizeof sevens, 99));
     s = expect(CABINET_POWER_LOST, "write", cabinet_write(s, area, sizeof area, 0, eights, sizeof eights, 1));
     s = expect(CABINET_DONE, "restart", cabinet_restart(s, area, sizeof area, 99));
-    expect(CABINET_DONE, "read", cabinet_read(s, area, sizeof area, 0, found, sizeof found, 99));
+    s = expect(CABINET_DONE, "read", cabinet_read(s, area, sizeof area, 0, found, sizeof found, 99));
     printf("first byte %d\n", found[0]);
     return found[0] == eights[0] ? EXIT_SUCCESS : EXIT_FAILURE;
 }

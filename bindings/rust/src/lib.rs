@@ -22,8 +22,12 @@
 //! let restarted = cut.state.restart(&mut area, 99);
 //! restarted.outcome()?;
 //! let mut block = [0; BLOCK_SIZE];
-//! restarted.state.read(&area, 0, &mut block, 99).outcome()?;
+//! let read = restarted.state.read(&area, 0, &mut block, 99);
+//! read.outcome()?;
 //! assert_eq!(block, [8; BLOCK_SIZE]);
+//!
+//! // The next call is made on `read.state`: a read may have moved. Here no disk was lost, and it made no store.
+//! assert_eq!((read.stores, read.state), (0, restarted.state));
 //! # Ok::<(), Refusal>(())
 //! ```
 
