@@ -67,7 +67,7 @@ module _ (b d r : ℕ) (w : Disks) (room : d < length (w .labels)) where
       (λ h. and-parts (isDirty (w .labels) d q) _
       (sym (has-difference ((labelAt (w .labels) d) .dirty) (singleton r) q) ∙ h) .0) (λ i ne h. h) e
 
--- a move leaves them, and the area
+-- a move leaves them
 pub move-dirty : (b : ℕ) (s : State) (w : Disks) (e : ℕ)
     → (labelAt (applyAll b (moveToLive s) w .labels) e) .dirty ≡ (labelAt (w .labels) e) .dirty
 move-dirty b s w e = keeps b Kept (each-live s (λ d i m v. propose-keeps d v) (λ d i m v. commit-keeps d v)) w refl
@@ -81,6 +81,7 @@ move-dirty b s w e = keeps b Kept (each-live s (λ d i m v. propose-keeps d v) (
     commit-keeps : (d : ℕ) (v : Disks) → Kept v → Kept (apply b (commit d (live s)) v)
     commit-keeps d v q = unfold apply in field-set (λ x. x .dirty) (v .labels) d _ refl e ∙ q
 
+-- and the area, since it stores on labels only
 pub move-area : (b : ℕ) (s : State) (w : Disks) → applyAll b (moveToLive s) w .area ≡ w .area
 unfolding apply
 move-area b s w = keeps b (λ v. v .area ≡ w .area) (each-live s (λ d i m v q. q) (λ d i m v q. q)) w refl

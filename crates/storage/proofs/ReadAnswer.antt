@@ -2,10 +2,12 @@
 -- output as it was where the power went. Assumes nothing.
 use mathlib.Core.Path.{_≡_, sym, ap, _∙_}
 use mathlib.Core.Logic.{_≢_}
+use mathlib.Core.Bool.{true}
 use mathlib.Core.List.{List, []}
 use Prim.Native.Nat.{ℕ}
 use native.Mathlib.Omega.{arith}
-use borrow.Author.Tests.{eq-eqb}
+use lib.Dec.{eqb}
+use borrow.Author.Tests.{eqb-true}
 use Rattle.protocol.specs.declared.Answer.{Answer}
 use Rattle.protocol.specs.declared.State.{State}
 use Rattle.protocol.specs.declared.Power.the-variants.{Running}
@@ -18,14 +20,15 @@ use Rattle.protocol.specs.Calls.{copiesOut}
 use Rattle.protocol.proofs.Outcomes.{is-cut, is-whole, cut-or-whole}
 
 -- where L is G there is no store to make
-pub all-live : (s : State) (budget : ℕ) (area output : List ℕ) → s .power ≡ Running (currentOf (s .power))
-    → live s ≡ currentOf (s .power)
+pub no-stores : (s : State) (budget : ℕ) (area output : List ℕ) → s .power ≡ Running (currentOf (s .power))
+    → eqb (live s) (currentOf (s .power)) ≡ true
     → yields (record { refusal = 0; stores = 0; state = s }) area output
     ≡ carryOut (moveToLive s) budget s area output (runsWith (live s) s output)
 unfolding moveToLive applyAll
-all-live s budget area output runs same =
-    rw (eq-eqb _ _ same)
-    (ap (λ power. outcome 0 0 (withLabels s (s .labels) power) area output) (runs ∙ ap Running (sym same))
+no-stores s budget area output runs same =
+    rw same
+    (ap (λ power. outcome 0 0 (withLabels s (s .labels) power) area output)
+    (runs ∙ ap Running (sym (eqb-true _ _ same)))
     ∙ sym (is-whole [] budget s area output (runsWith (live s) s output) (omega arith)))
 
 module _ (s : State) (k budget : ℕ) (area output : List ℕ) (r : Answer)

@@ -3,9 +3,11 @@ ghost use mathlib.Core.Path.{_≡_};
 ghost use mathlib.Core.Bool.{true};
 ghost use mathlib.Core.List.{List};
 ghost use Prim.Native.Nat.{ℕ, _*_, _≤_};
+ghost use lib.Dec.{eqb};
 ghost use lib.ListN.{length};
 ghost use Rattle.sets.specs.Sets.{below};
 ghost use Rattle.protocol.specs.Geometry.{mostDisks};
+ghost use Rattle.protocol.specs.States.{currentOf, live};
 ghost use Rattle.protocol.specs.Soundness.{Sound};
 ghost use Rattle.protocol.specs.Lists.{move, moveToLive};
 ghost use Rattle.budget.specs.Runs.{progress, runAll};
@@ -26,17 +28,23 @@ pub(crate) fn move_to(run: Run, n: usize, set: Mask) -> Run
     changes::store_labels(run, n, set, Change::Commit(set))
 }
 
+// Whether L is G: no current disk is out of reach.
+pub(crate) fn all_live(s: State) -> bool
+    ensures { λ r. ⌜ r ≡ eqb (live s) (currentOf (s .power)) ⌝ }
+{
+    let power = s.power;
+    live(s) == current(power)
+}
+
 // "if L differs from G, move to L"
 pub(crate) fn move_to_live(run: Run, s: State) -> Run
     requires { do ⌜ s .disks ≤ (← ⟦DISKS⟧) ⌝ }
     ensures { λ r. ⌜ ((b : ℕ) (area : List ℕ) → progress r area ≡ runAll b (moveToLive s) (progress run area)) ⌝ }
 {
-    let power = s.power;
-    let live = live(s);
-    if live == current(power) {
+    if all_live(s) {
         return run;
     }
-    move_to(run, s.disks as usize, live)
+    move_to(run, s.disks as usize, live(s))
 }
 
 // How many stores a move has.
@@ -49,11 +57,5 @@ pub(crate) fn move_length(set: Mask) -> usize
 pub(crate) fn live_length(s: State) -> usize
     ensures { λ r. ⌜ (Sound s → r ≡ length (moveToLive s)) × (r ≤ 2 * mostDisks) ⌝ }
 {
-    let power = s.power;
-    let live = live(s);
-    if live == current(power) {
-        0
-    } else {
-        move_length(live)
-    }
+    if all_live(s) { 0 } else { move_length(live(s)) }
 }

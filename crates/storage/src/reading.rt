@@ -9,6 +9,7 @@ ghost use Rattle.protocol.specs.Lists.{moveToLive};
 ghost use Rattle.protocol.specs.Outcomes.{yields, runsWith, carryOut};
 ghost use Rattle.protocol.specs.Calls.{readOutcome};
 use crate::checks::block_refusal;
+use crate::moves::all_live;
 use crate::moves::move_length;
 use crate::moves::move_to;
 use area::load;
@@ -17,7 +18,6 @@ use budget::ended;
 use budget::started;
 use protocol::Answer;
 use protocol::State;
-use state::current;
 use state::live;
 use state::source;
 use state::without_stores;
@@ -30,11 +30,10 @@ fn read_stores(s: State, budget: u16) -> Answer
     ensures { λ r. ⌜ ((area output : List ℕ) → yields r area output
         ≡ carryOut (moveToLive s) budget s area output (runsWith (live s) s output)) ⌝ }
 {
-    let power = s.power;
-    let live = live(s);
-    if live == current(power) {
+    if all_live(s) {
         return without_stores(s, 0);
     }
+    let live = live(s);
     let stores = move_length(live);
     let run = move_to(started(s, budget), s.disks as usize, live);
     ended(s, run, stores, live, budget)
