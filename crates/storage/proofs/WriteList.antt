@@ -34,8 +34,7 @@ module _ (s : State) (k : ℕ) (bytes : List ℕ) where
   write-ran few p first second third =
       let b = s .blocks in
       rw (where-lacks (s .labels) (regionOf k) (s .disks) few (live s) (λ d. mark d (regionOf k)))
-      (in-sequence b _ _ p
-      (in-sequence b (moveToLive s) _ p first second) third)
+      (in-sequence b _ _ p (in-sequence b (moveToLive s) _ p first second) third)
 
   pub write-length : Sound s
       → length (writeList s k bytes) ≡ length (moveToLive s) + size unmarked + size (live s)
