@@ -143,7 +143,7 @@ impl Claim {
             Claim::ReadStores => "the disks after a read are those of exactly so many stores of its list as it reports",
             Claim::ReadKeepsOutput => "a read that does not give 0 leaves the output as it was",
             Claim::ReadWithinReach => "what a read yields does not depend on what disks out of reach hold",
-            Claim::ReadMoves => "after a read that gives 0 every disk of G is in reach",
+            Claim::ReadMoves => "a read that gives 0 leaves a cabinet that runs with its L",
             Claim::AcknowledgedCounts => "a write that gives 0 counts in the book",
             Claim::CutCounts => "a cut write counts exactly when its stores reach that on the lowest member of L",
             Claim::WriteBound => {
@@ -197,8 +197,7 @@ impl Claim {
             (Claim::ReadKeepsOutput, Call::Read { .. }) => result == DONE || event.output == event.given,
             (Claim::ReadWithinReach, Call::Read { .. }) => yields_nothing_of_lost_disks(event),
             (Claim::ReadMoves, Call::Read { .. }) => {
-                let after = &event.after.state;
-                result != DONE || after.current().inside(after.reach)
+                result != DONE || event.after.state.power == Power::Running(event.before.state.live())
             }
             (Claim::AcknowledgedCounts, Call::Write { .. }) => result != DONE || event.counted,
             (Claim::CutCounts, Call::Write { block, .. }) => {

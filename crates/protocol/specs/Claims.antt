@@ -1,7 +1,7 @@
 -- What else is proved of the calls, and of every list of them, beside demand 3.
 use mathlib.Core.Path.{_≡_}
 use mathlib.Core.Logic.{_≢_}
-use mathlib.Core.Bool.{true}
+use mathlib.Core.Bool.{true, _&&_}
 use mathlib.Core.List.{List, [], _∷_, _++_}
 use Prim.Native.Nat.{ℕ, _+_, _*_, _≤_, _<_}
 use lib.ListN.{length}
@@ -99,31 +99,31 @@ ReadsRight = (n b : ℕ) (lent : List ℕ) → formatOutcome lent [] n b .answer
     → (calls : List Step) (c : CallIn calls) (k budget : ℕ) → c .this .call ≡ Read k budget
     → result n b lent c .answer .refusal ≡ 0 → result n b lent c .output ≡ contentsAt n b c k
 
+-- "Reads should notice a loss" (document 02, 2.3): what a read of this state, area and output owes, of all that it
+-- yields.
+module _ (s : State) (area output : List ℕ) where
+  pub record Noticing (o : Outcome) : Type 0 where
+    -- done, it runs with exactly the disks that were current and are in reach
+    pub noticed : o .answer .refusal ≡ 0
+        → (g : ℕ) × (o .answer .state .power ≡ Running g)
+        × ((d : ℕ) → has g d ≡ has (currentOf (s .power)) d && has (o .answer .state .online) d)
+    -- "a read that is cut leaves the output buffer unchanged", and so does each other one that is not done
+    pub unfilled : o .answer .refusal ≢ 0 → o .output ≡ output
+    -- "the state is that of exactly so many stores", of those of a move to L
+    pub counted : disksOf (o .answer .state) (o .area)
+        ≡ applyAll (s .blocks) (made (o .answer .stores) (moveToLive s)) (disksOf s area)
+
+abbrev pub ReadsNotice : Type 0
+ReadsNotice =
+    (s : State) (area output : List ℕ) (k budget : ℕ) → Noticing s area output (readOutcome s area output k budget)
+
 -- the same blocks on each disk in reach; those out of reach may hold anything
 abbrev pub SameInReach : State → List ℕ → List ℕ → Type 0
 SameInReach s area other =
     (d k : ℕ) → has (s .online) d ≡ true → k < s .blocks → block (s .blocks) area d k ≡ block (s .blocks) other d k
 
--- "Reads should notice a loss" (document 02, 2.3): what else a read does, whatever it is given.
-module _ (s : State) (area output : List ℕ) (k budget : ℕ) where
-  abbrev pub yielded : Outcome
-  yielded = readOutcome s area output k budget
-
-  abbrev pub stateLeft : State
-  stateLeft = yielded .answer .state
-
-  pub record Noticing : Type 0 where
-    -- after one that gives 0 every current disk is in reach
-    pub noticed : yielded .answer .refusal ≡ 0
-        → (d : ℕ) → has (currentOf (stateLeft .power)) d ≡ true → has (stateLeft .online) d ≡ true
-    -- "a read that is cut leaves the output buffer unchanged", and so does each other one that does not give 0
-    pub unfilled : yielded .answer .refusal ≢ 0 → yielded .output ≡ output
-    -- "the state is that of exactly so many stores", of those of a move to L
-    pub counted : disksOf stateLeft (yielded .area)
-        ≡ applyAll (s .blocks) (made (yielded .answer .stores) (moveToLive s)) (disksOf s area)
-    -- the output depends on no disk out of reach
-    pub from-reach : (other : List ℕ) → length area ≡ length other → SameInReach s area other
-        → yielded .output ≡ readOutcome s other output k budget .output
-
-abbrev pub ReadsNotice : Type 0
-ReadsNotice = (s : State) (area output : List ℕ) (k budget : ℕ) → Noticing s area output k budget
+-- The output of a read does not depend on a disk out of reach.
+abbrev pub ReadsInReach : Type 0
+ReadsInReach =
+    (s : State) (area other output : List ℕ) (k budget : ℕ) → length area ≡ length other → SameInReach s area other
+    → readOutcome s area output k budget .output ≡ readOutcome s other output k budget .output
