@@ -33,9 +33,9 @@ pub enum Claim {
     ReadStores,
     /// Reads that are not done leave the output.
     ReadKeepsOutput,
-    /// Reads yield nothing of a disk out of reach.
+    /// The output of a read is nothing of a disk out of reach.
     ReadWithinReach,
-    /// Reads notice a loss.
+    /// Reads notice a loss: they leave G = L.
     ReadMoves,
     /// Acknowledged writes count.
     AcknowledgedCounts,
@@ -142,7 +142,7 @@ impl Claim {
             Claim::ReadsBook => "a read that gives 0 yields the book's block",
             Claim::ReadStores => "the disks after a read are those of exactly so many stores of its list as it reports",
             Claim::ReadKeepsOutput => "a read that does not give 0 leaves the output as it was",
-            Claim::ReadWithinReach => "what a read yields does not depend on what disks out of reach hold",
+            Claim::ReadWithinReach => "the output of a read does not depend on what disks out of reach hold",
             Claim::ReadMoves => "a read that gives 0 leaves a cabinet that runs with its L",
             Claim::AcknowledgedCounts => "a write that gives 0 counts in the book",
             Claim::CutCounts => "a cut write counts exactly when its stores reach that on the lowest member of L",
