@@ -128,6 +128,18 @@ static struct cabinet_state lost(struct cabinet_state s)
     return s;
 }
 
+/* The longest search for the set: each disk has another T and another C, every stage has eight sets to test, and only
+   the last one of all, the last disk's C, is a candidate. */
+static struct cabinet_state divided(struct cabinet_state s)
+{
+    for (int d = 0; d < DISKS; d++) {
+        s.labels[d].tentative = (uint8_t) ~(1 << (d + 1) % DISKS);
+        s.labels[d].committed = (uint8_t) ~(1 << (d + 2) % DISKS);
+    }
+    s.labels[LAST].committed = 1 << LAST;
+    return s;
+}
+
 /* All but the last disk are current. */
 static struct cabinet_state without_last(struct cabinet_state s)
 {
@@ -148,8 +160,10 @@ int main(void)
         {"write that first moves", WRITE, lost(fresh)},
         {"join", JOIN, without_last(fresh)},
         {"clean (quiet), all regions dirty", CLEAN, dirty(fresh)},
+        {"clean (quiet), none dirty", CLEAN, fresh},
         {"restart, none dirty", RESTART, stopped(fresh)},
         {"restart, all regions dirty", RESTART, stopped(dirty(fresh))},
+        {"restart, eight different sets", RESTART, stopped(divided(fresh))},
     };
     printf("| call | before, ns | now, ns | ratio |\n| --- | ---: | ---: | ---: |\n");
     for (size_t i = 0; i < sizeof rows / sizeof *rows; i++)

@@ -90,6 +90,11 @@ pub fn rows() -> Vec<Row> {
         row("clean (quiet), none dirty", Call::Clean, fresh()),
         row("restart, none dirty", Call::Restart, stopped(fresh())),
         longest_restart(),
+        row(
+            "restart, eight different sets",
+            Call::Restart,
+            divided(stopped(fresh())),
+        ),
         row("detach (lose)", Call::Detach, fresh()),
         row("attach (return)", Call::Attach, moved),
         row("power off (cut)", Call::PowerOff, fresh()),
@@ -126,6 +131,17 @@ fn dirty(mut state: State) -> State {
     for label in &mut state.labels {
         label.dirty = u8::MAX;
     }
+    state
+}
+
+/// The longest search for the set: each disk has another T and another C, every stage has eight sets to test, and only
+/// the last one of all, the last disk's C, is a candidate.
+fn divided(mut state: State) -> State {
+    for (d, label) in state.labels.iter_mut().enumerate() {
+        label.tentative = !(1 << ((d + 1) % DISKS));
+        label.committed = !(1 << ((d + 2) % DISKS));
+    }
+    state.labels[DISK].committed = 1 << DISK;
     state
 }
 

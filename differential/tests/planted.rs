@@ -10,12 +10,15 @@ use reference::mistakes::{Mistake, Rules};
 use reference::random::Random;
 use reference::refutation::IN_NO_HISTORY;
 
-/// The mistakes that no call shows: two are the book's, two are claims', and one is a law's.
-const HIDDEN: [Mistake; 5] = [
+/// The mistakes that no call shows: two are the book's, two are claims', and three are the finder's, by which no call
+/// of the reference goes.
+const HIDDEN: [Mistake; 7] = [
     Mistake::BookCountsAtLastDisk,
     Mistake::BookCountsEveryWrite,
     Mistake::CutWriteCountsEarly,
     Mistake::FinderMissesCommitted,
+    Mistake::ListMissesLastDisk,
+    Mistake::ListRepeatsSets,
     Mistake::WriteBoundThree,
 ];
 

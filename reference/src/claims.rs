@@ -7,12 +7,14 @@ use crate::definitions;
 use crate::diagnosis::{Diagnosis, Reason};
 use crate::lists;
 use crate::mistakes::{Mistake, Rules};
-use crate::naming::{self, Found};
+use crate::naming::{self, Found, STAGES};
 use crate::refusal::*;
+use crate::sets::DiskSet;
 use crate::slots::{self, SLOT};
 use crate::state::{Power, State};
 use crate::store::{self, Store};
 use std::borrow::Cow;
+use std::collections::BTreeSet;
 
 /// One claim.
 #[derive(Clone, Copy, Debug, PartialEq, Eq)]
@@ -51,6 +53,10 @@ pub enum Claim {
     SavedAssembles,
     /// The stages name what the definition says.
     NamedAsDefined,
+    /// The lists of sets to test are short. This and the next two are about any labels, and any R inside n.
+    ListsShort,
+    /// The lists of sets to test have every candidate.
+    ListsComplete,
     /// The finder agrees with the definition.
     FinderAgrees,
     /// The test of soundness agrees with the definition; a claim about any state, not only reached ones.
@@ -89,10 +95,12 @@ pub struct Event<'a> {
 
 impl Claim {
     /// The claims about each state that is reached.
-    pub const OF_STATES: [Claim; 5] = [
+    pub const OF_STATES: [Claim; 7] = [
         Claim::Sound,
         Claim::SavedAssembles,
         Claim::NamedAsDefined,
+        Claim::ListsShort,
+        Claim::ListsComplete,
         Claim::FinderAgrees,
         Claim::TestAgrees,
     ];
@@ -154,7 +162,9 @@ impl Claim {
             Claim::MembersTold => "a join of a current disk gives 11, in reach or not",
             Claim::SavedAssembles => "a saved state, assembled with its R, is the state after a cut",
             Claim::NamedAsDefined => "the stages name the set that the definition says",
-            Claim::FinderAgrees => "the finder, with one set a disk, gives the definition's answer",
+            Claim::ListsShort => "the list of each stage has at most n sets to test, and none twice",
+            Claim::ListsComplete => "the list of each stage has every candidate of the stage",
+            Claim::FinderAgrees => "the finder, which tests the listed sets alone, gives the definition's answer",
             Claim::TestAgrees => "the test of soundness gives the definition's answer",
             Claim::EarliestReason => "the reason of a diagnosis is true of the disk's own set, and no earlier one is",
             Claim::CandidateTold => "a diagnosis says 'a candidate' exactly where the own set is one of that stage",
@@ -176,7 +186,9 @@ impl Claim {
             Claim::Sound => definitions::is_sound(state),
             Claim::SavedAssembles => saved_assembles(rules, state),
             Claim::NamedAsDefined => naming::named(rules, &state.labels, state.reach) == defined(),
-            Claim::FinderAgrees => naming::found_by_disks(rules, &state.labels, state.reach) == defined(),
+            Claim::ListsShort => lists_are_short(rules, state),
+            Claim::ListsComplete => lists_are_complete(rules, state),
+            Claim::FinderAgrees => naming::found_in_lists(rules, state.disks, &state.labels, state.reach) == defined(),
             Claim::TestAgrees => state.is_sound(rules) == definitions::is_sound(state),
             _ => true,
         }
@@ -241,6 +253,27 @@ impl Claim {
             _ => true,
         }
     }
+}
+
+/// "At most n sets to test", and none of them twice.
+fn lists_are_short(rules: Rules, state: &State) -> bool {
+    lists_of_stages(rules, state).iter().all(|sets| {
+        let different: BTreeSet<&DiskSet> = sets.iter().collect();
+        sets.len() <= state.disks.into() && different.len() == sets.len()
+    })
+}
+
+/// "Proved to hold every candidate of that stage."
+fn lists_are_complete(rules: Rules, state: &State) -> bool {
+    (1..).zip(lists_of_stages(rules, state)).all(|(stage, sets)| {
+        let mut candidates = definitions::candidates(&state.labels, state.reach, stage);
+        candidates.all(|x| sets.contains(&x))
+    })
+}
+
+/// The list of each stage.
+fn lists_of_stages(rules: Rules, state: &State) -> [Vec<DiskSet>; 3] {
+    STAGES.map(|stage| naming::sets_to_test(rules, stage, state.disks, &state.labels))
 }
 
 /// Whether the labels and the disk area are those of exactly so many stores of a read's list as it reports. A refused

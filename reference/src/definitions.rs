@@ -40,8 +40,7 @@ pub fn is_sound(state: &State) -> bool {
 
 /// 'Which set a restart names': of all sets X inside R, those whose first stage comes first. One of them is the set.
 pub fn named(labels: &[Label; 8], reach: DiskSet) -> Found {
-    let inside = (1..=reach.0).filter(|x| x & reach.0 == *x);
-    let staged: Vec<(u8, u8)> = inside
+    let staged: Vec<(u8, u8)> = sets_inside(reach)
         .filter_map(|x| first_stage(labels, x).map(|stage| (stage, x)))
         .collect();
     let Some(&(decides, _)) = staged.iter().min() else {
@@ -56,6 +55,17 @@ pub fn named(labels: &[Label; 8], reach: DiskSet) -> Found {
         [x] => Found::One(DiskSet(x)),
         _ => Found::Several,
     }
+}
+
+/// "A non-empty set X inside R": each of them.
+fn sets_inside(reach: DiskSet) -> impl Iterator<Item = u8> {
+    (1..=reach.0).filter(move |x| x & reach.0 == *x)
+}
+
+/// The candidates of this stage, from 1.
+pub fn candidates(labels: &[Label; 8], reach: DiskSet, stage: usize) -> impl Iterator<Item = DiskSet> + '_ {
+    let fits = move |x: &u8| stages(labels, *x)[stage - 1];
+    sets_inside(reach).filter(fits).map(DiskSet)
 }
 
 /// The first stage in which X is a candidate.

@@ -43,6 +43,10 @@ pub enum Mistake {
     JoinReachBeforeMember,
     /// One member suffices for a stage, and the largest of several sets is taken.
     LargerSet,
+    /// The lists of sets to test lack the last disk's set.
+    ListMissesLastDisk,
+    /// The lists of sets to test have a set once for each disk that has it.
+    ListRepeatsSets,
     /// A diagnosis tells the lowest member as out of reach, though it may be in reach.
     LowestMemberTold,
     /// Only a set that has most of the disks in reach is taken.
@@ -85,7 +89,7 @@ pub enum Mistake {
 
 impl Mistake {
     /// Every mistake with its name.
-    pub const ALL: [(Mistake, &'static str); 38] = [
+    pub const ALL: [(Mistake, &'static str); 40] = [
         (Mistake::AssembleOneSlot, "assemble_one_slot"),
         (Mistake::BlocksBeforeBits, "blocks_before_bits"),
         (Mistake::BookCountsAtLastDisk, "book_counts_at_last_disk"),
@@ -105,6 +109,8 @@ impl Mistake {
         (Mistake::JoinNoneLiveBeforeMember, "join_none_live_before_member"),
         (Mistake::JoinReachBeforeMember, "join_reach_before_member"),
         (Mistake::LargerSet, "larger_set"),
+        (Mistake::ListMissesLastDisk, "list_misses_last_disk"),
+        (Mistake::ListRepeatsSets, "list_repeats_sets"),
         (Mistake::LowestMemberTold, "lowest_member_told"),
         (Mistake::Majority, "majority"),
         (Mistake::OtherSetOfSeveral, "other_set_of_several"),

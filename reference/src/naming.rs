@@ -27,7 +27,7 @@ pub enum Stage {
 }
 
 /// The stages in their order.
-const STAGES: [Stage; 3] = [Stage::First, Stage::Second, Stage::Third];
+pub const STAGES: [Stage; 3] = [Stage::First, Stage::Second, Stage::Third];
 
 impl Stage {
     /// The stage of this number, from 1.
@@ -68,21 +68,33 @@ pub fn named(rules: Rules, labels: &[Label; 8], reach: DiskSet) -> Found {
     })
 }
 
-/// The same by one set a disk: T in the first two stages and C in the third, since a candidate of a stage is that set
-/// of one of its members. A law and the explorer compare it with the search.
-pub fn found_by_disks(rules: Rules, labels: &[Label; 8], reach: DiskSet) -> Found {
+/// The same by a test of the listed sets alone, with R inside n. A claim compares it with the definition.
+pub fn found_in_lists(rules: Rules, disks: u8, labels: &[Label; 8], reach: DiskSet) -> Found {
     decide(rules, |stage| {
-        let tried = |d: u8| tried(rules, stage, &labels[d as usize]);
-        let fits = |x: &DiskSet| x.inside(reach) && is_candidate(rules, stage, labels, reach, *x);
-        let mut sets: Vec<DiskSet> = reach.members().map(tried).filter(fits).collect();
-        sets.sort();
-        sets.dedup();
+        let mut sets = sets_to_test(rules, stage, disks, labels);
+        sets.retain(|x| x.inside(reach) && is_candidate(rules, stage, labels, reach, *x));
         sets
     })
 }
 
-/// The one set of a disk that is tried in a stage.
-fn tried(rules: Rules, stage: Stage, label: &Label) -> DiskSet {
+/// "List for each stage at most n sets to test" (request 2.4): one set a disk, ascending, since a candidate of a stage
+/// is that set of one of its members. Each stands once, at the lowest disk that has it. A candidate is not empty.
+pub fn sets_to_test(rules: Rules, stage: Stage, disks: u8, labels: &[Label; 8]) -> Vec<DiskSet> {
+    let left_out = usize::from(rules.makes(Mistake::ListMissesLastDisk));
+    let listed = usize::from(disks).saturating_sub(left_out);
+    let mut sets = Vec::new();
+    for label in labels.iter().take(listed) {
+        let set = set_to_test(rules, stage, label);
+        let is_listed = sets.contains(&set) && !rules.makes(Mistake::ListRepeatsSets);
+        if !set.is_empty() && !is_listed {
+            sets.push(set);
+        }
+    }
+    sets
+}
+
+/// The one set of a disk that is tested in a stage: T in the first two and C in the third.
+fn set_to_test(rules: Rules, stage: Stage, label: &Label) -> DiskSet {
     match stage {
         Stage::Third if !rules.makes(Mistake::FinderMissesCommitted) => label.committed,
         _ => label.tentative,

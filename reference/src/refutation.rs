@@ -34,6 +34,8 @@ pub fn claim_against(mistake: Mistake) -> Claim {
         Mistake::DisagreementBeforeReach | Mistake::LowestMemberTold | Mistake::OwnSetByStage => Claim::EarliestReason,
         Mistake::FinderMissesCommitted => Claim::FinderAgrees,
         Mistake::JoinNoneLiveBeforeMember | Mistake::JoinReachBeforeMember => Claim::MembersTold,
+        Mistake::ListMissesLastDisk => Claim::ListsComplete,
+        Mistake::ListRepeatsSets => Claim::ListsShort,
         Mistake::OtherSetOfSeveral | Mistake::OtherSetWithDisk => Claim::OtherSet,
         Mistake::ReadCountsNoStores => Claim::ReadStores,
         Mistake::ReadFillsThenCut => Claim::ReadKeepsOutput,

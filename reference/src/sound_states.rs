@@ -57,7 +57,7 @@ fn member_labels(current: DiskSet) -> Vec<Label> {
 }
 
 /// Every label of this disk of n, if it is no member: C and T are each 0, or name disks below n and "its own disk".
-pub fn labels(n: u8, disk: u8) -> Vec<Label> {
+fn labels(n: u8, disk: u8) -> Vec<Label> {
     let sets = || {
         let inside = DiskSet::below(n).sets_inside();
         inside.filter(move |set| set.is_empty() || set.has(disk))

@@ -5,11 +5,9 @@ use reference::definitions;
 use reference::explorer::explore;
 use reference::label::Label;
 use reference::mistakes::Rules;
-use reference::naming::{found_by_disks, named};
 use reference::random::Random;
 use reference::sets::DiskSet;
 use reference::small_states;
-use reference::sound_states;
 use reference::state::{Power, State};
 
 /// Explores a cabinet, and expects so many states and calls: a change of these numbers wants a reason.
@@ -94,47 +92,4 @@ fn the_test_of_soundness_is_the_definition_on_random_states() {
         sound += usize::from(is_sound);
     }
     assert!(sound > 1000, "{sound}");
-}
-
-/// The search, the definition in other words and the finder agree.
-fn names_agree(labels: &[Label; 8], reach: DiskSet) {
-    let defined = definitions::named(labels, reach);
-    assert_eq!(named(Rules::PAPER, labels, reach), defined, "{labels:?}");
-    let by_disks = found_by_disks(Rules::PAPER, labels, reach);
-    assert_eq!(by_disks, defined, "{labels:?}");
-}
-
-/// The labels of this disk of three. The stages do not look at dirty maps.
-fn clean_labels(disk: u8) -> Vec<Label> {
-    let mut labels = sound_states::labels(3, disk);
-    labels.retain(|label| label.dirty == 0);
-    labels
-}
-
-#[test]
-fn the_stages_agree_on_all_sound_labels_of_three_disks() {
-    let [first, second, third] = [0, 1, 2].map(clean_labels);
-    let mut labels = [Label::ZERO; 8];
-    for (a, b) in first.iter().flat_map(|a| second.iter().map(move |b| (a, b))) {
-        for c in &third {
-            labels[..3].copy_from_slice(&[*a, *b, *c]);
-            names_agree(&labels, DiskSet(7));
-            names_agree(&labels, DiskSet(5));
-        }
-    }
-}
-
-#[test]
-fn the_stages_agree_on_random_labels_of_eight_disks() {
-    let mut random = Random::new(4);
-    for _ in 0..20_000 {
-        let common = [random.byte(), random.byte(), random.byte(), 0].map(DiskSet);
-        let mut labels = [Label::ZERO; 8];
-        for label in &mut labels {
-            label.committed = random.pick(&common);
-            label.tentative = random.pick(&common);
-        }
-        let reach = DiskSet(random.byte() | random.byte() | random.byte());
-        names_agree(&labels, reach);
-    }
 }

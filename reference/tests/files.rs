@@ -75,7 +75,7 @@ fn the_last_line_of_the_corpus_lacks_its_line_feed() {
 }
 
 /// The mistakes that change no answer of the cabinet program on any input: they are about other things.
-const UNSEEN_BY_THE_PROGRAM: [Mistake; 15] = [
+const UNSEEN_BY_THE_PROGRAM: [Mistake; 17] = [
     Mistake::AssembleOneSlot,
     Mistake::BookCountsAtLastDisk,
     Mistake::BookCountsEveryWrite,
@@ -83,6 +83,8 @@ const UNSEEN_BY_THE_PROGRAM: [Mistake; 15] = [
     Mistake::DiagnosisWithoutProposal,
     Mistake::DisagreementBeforeReach,
     Mistake::FinderMissesCommitted,
+    Mistake::ListMissesLastDisk,
+    Mistake::ListRepeatsSets,
     Mistake::LowestMemberTold,
     Mistake::OtherSetOfSeveral,
     Mistake::OtherSetWithDisk,

@@ -5,7 +5,7 @@ use reference::diagnosis::{diagnose, questions, Diagnosis, Reason};
 use reference::driver;
 use reference::label::{self, Label};
 use reference::mistakes::Rules;
-use reference::naming::{found_by_disks, named, Found};
+use reference::naming::{found_in_lists, named, sets_to_test, Found, STAGES};
 use reference::sets::DiskSet;
 use reference::state::{Power, State};
 
@@ -39,14 +39,21 @@ fn stopped(committed: &[u8], tentative: &[u8], reach: u8) -> State {
     state
 }
 
+/// The state of the restart of this name.
+fn example(name: &str) -> State {
+    let example = RESTARTS.iter().find(|example| example.0 == name);
+    let (_, committed, tentative, reach, _) = *example.expect("it is one of the restarts");
+    stopped(committed, tentative, reach)
+}
+
 #[test]
 fn restarts_name_what_the_paper_says() {
     for (name, committed, tentative, reach, found) in RESTARTS {
         let state = stopped(committed, tentative, reach);
         let by_sets = named(Rules::PAPER, &state.labels, state.reach);
-        let by_disks = found_by_disks(Rules::PAPER, &state.labels, state.reach);
+        let in_lists = found_in_lists(Rules::PAPER, state.disks, &state.labels, state.reach);
         assert_eq!(by_sets, found, "{name}");
-        assert_eq!(by_disks, found, "{name}");
+        assert_eq!(in_lists, found, "{name}");
     }
 }
 
@@ -65,6 +72,26 @@ fn restarts_answer_what_the_paper_says() {
         };
         assert_eq!(answer, Answer { result, stores }, "{name}");
         assert_eq!(cabinet.state.power, power, "{name}");
+    }
+}
+
+/// Request 2.4 on four of them, by hand: the sets to test of each stage, stage 1 first. H3: no disk has a T, and disks
+/// 0 and 1 have one C. H4: disks 0 and 1 have the T 3 and disk 2 has none; all have the C 7, which is listed though it
+/// is not inside R. H8: all have the T 7; disks 0 and 1 have the C 3, and disk 2 the C 7. H10: each disk has its own C.
+const LISTED: [(&str, [&[u8]; 3]); 4] = [
+    ("H3", [&[], &[], &[3, 6]]),
+    ("H4", [&[3], &[3], &[7]]),
+    ("H8", [&[7], &[7], &[3, 7]]),
+    ("H10", [&[], &[], &[1, 2]]),
+];
+
+#[test]
+fn lists_have_the_sets_that_were_found_by_hand() {
+    for (name, expected) in LISTED {
+        let state = example(name);
+        let lists = STAGES.map(|stage| sets_to_test(Rules::PAPER, stage, state.disks, &state.labels));
+        let bytes = lists.map(|sets| sets.iter().map(|set| set.0).collect::<Vec<u8>>());
+        assert_eq!(bytes, expected, "{name}");
     }
 }
 
@@ -91,9 +118,7 @@ const TOLD: [Told; 3] = [
 #[test]
 fn diagnoses_tell_what_was_found_by_hand() {
     for (name, reasons, sets) in TOLD {
-        let example = RESTARTS.iter().find(|example| example.0 == name);
-        let (_, committed, tentative, reach, _) = *example.expect("it is one of the restarts");
-        let state = stopped(committed, tentative, reach);
+        let state = example(name);
         for (stage, disk) in questions(3) {
             let expected = Diagnosis {
                 result: 0,

@@ -19,6 +19,7 @@ use Rattle.budget.specs.declared.Run.{Run}
 use Rattle.budget.specs.Runs.{Progress, progress, runOne, runAll, oneIf}
 use Rattle.budget.specs.Sizes.{Fits}
 use Rattle.budget.proofs.Runs.{run-append, power-there, one-made}
+use Rattle.block_stores.specs.Copying.{LoadedOnce}
 
 -- disk d below n has its part in the area
 pub in-area : (n b d k : ℕ) (area : List ℕ) → Fits n b area → d < n → k < b → InArea b d k area
@@ -112,10 +113,7 @@ module _ (n b from k set : ℕ) (source : from < n) (known : k < b) (apart : has
       (here, after)
 
 -- the copies of a block are writes of what it held before the first of them
-pub loaded-once : (n b from k set : ℕ) (p : Progress) → from < n → k < b → has set from ≡ false
-    → length (p .disks .area) ≡ areaSize n b
-    → runAll b (forEach n set (λ d. write d k (block b (p .disks .area) from k) ∷ [])) p
-    ≡ runAll b (forEach n set (λ d. copy from d k ∷ [])) p
+pub loaded-once : LoadedOnce
 loaded-once n b from k set p source known apart size =
     let bytes = block b (p .disks .area) from k in
     let full = block-length n b (p .disks .area) size from k source known in

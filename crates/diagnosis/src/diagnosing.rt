@@ -7,7 +7,7 @@ ghost use Rattle.naming.specs.Meaning.{foundOf};
 ghost use Rattle.finder.specs.Stages.{stageOf};
 use crate::checks::diagnose_refusal;
 use finder::Stage;
-use finder::named;
+use finder::find;
 use finder::reason_for;
 use label::Label;
 use naming::Naming;
@@ -60,7 +60,7 @@ fn diagnosed(s: State, stage: usize, d: usize) -> Diagnosis
     let disks = s.disks as usize;
     let stage = stage_numbered(stage);
     let reason = reason_for(stage, disks, s.online, labels, own_set(labels[d]));
-    let found = named(disks, s.online, labels);
+    let found = find(disks, s.online, labels);
     Diagnosis {
         refusal: 0,
         reason: reason,

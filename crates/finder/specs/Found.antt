@@ -1,11 +1,15 @@
--- A set that was found already.
-use mathlib.Core.Bool.{Bool, false}
+-- Candidates as they are found.
+use mathlib.Core.Bool.{Bool, true, false}
 use Prim.Native.Nat.{ℕ}
-use lib.Dec.{eqb}
 use Rattle.protocol.specs.Naming.{Found, none, one, several}
 
--- the one set that was found is x
-unfoldable pub isOne : Found → ℕ → Bool
-isOne none x = false
-isOne (one y) x = eqb y x
-isOne several x = false
+abbrev pub isNone : Found → Bool
+isNone none = true
+isNone (one x) = false
+isNone several = false
+
+-- one candidate more: the list that it is of has no set twice
+unfoldable pub another : Found → ℕ → Found
+another none x = one x
+another (one y) x = several
+another several x = several

@@ -1,62 +1,46 @@
-// Whether a set is a candidate of a stage.
+// Whether a set is a candidate of a stage: one pass over the labels says which disks have it, and the rest are set
+// operations.
 ghost use mathlib.Core.Path.{_≡_};
-ghost use Prim.Native.Nat.{_≤_};
-ghost use Rattle.protocol.specs.Loops.{some};
-ghost use Rattle.protocol.specs.States.{labelAt};
-ghost use Rattle.protocol.specs.Naming.{proposes, candidate};
-ghost use Rattle.protocol.specs.Diagnosis.{dissenters};
+ghost use mathlib.Core.Bool.{_&&_};
+ghost use lib.Dec.{ltb};
+ghost use Rattle.sets.specs.Sets.{intersection, subset};
 ghost use Rattle.finder.specs.Stages.{stageOf};
+ghost use Rattle.finder.specs.Masks.{backers, holders};
 use crate::Stage;
 use crate::stages::backs;
-use crate::stages::proposes;
 use label::Label;
 use sets::DISKS;
 use sets::Mask;
 
-// The members that disagree with what the stage asks of each.
-pub(crate) fn dissenters(stage: Stage, disks: usize, labels: [Label; DISKS], x: Mask) -> Mask
-    requires { do ⌜ disks ≤ (← ⟦DISKS⟧) ⌝ }
-    ensures { λ r. ⌜ r ≡ dissenters (stageOf stage) disks labels x ⌝ }
+// The disks whose label has what the stage asks of each member. The loop goes over all eight labels, so that compiled
+// code knows the disk in each iteration.
+pub(crate) fn backers(stage: Stage, labels: [Label; DISKS], x: Mask) -> Mask
+    ensures { λ r. ⌜ r ≡ backers (stageOf stage) labels x ⌝ }
 {
     let mut set = 0;
     let mut d = 0;
-    while d < disks {
-        let dissents = sets::has(x, d) & !backs(stage, labels[d], x);
-        set = sets::union(set, sets::singleton_if(dissents, d));
+    while d < DISKS {
+        set = sets::union(set, sets::singleton_if(backs(stage, labels[d], x), d));
         d += 1;
     }
     set
 }
 
-pub(crate) fn some_propose(stage: Stage, disks: usize, labels: [Label; DISKS], x: Mask) -> bool
-    requires { do ⌜ disks ≤ (← ⟦DISKS⟧) ⌝ }
-    ensures { λ r. ⌜ r ≡ some disks x (λ d. proposes (stageOf stage) (labelAt labels d) x) ⌝ }
+// The disks that have the set as the one that the stage may test. Only in stage 2 are they not all that back it.
+pub(crate) fn holders(stage: Stage, labels: [Label; DISKS], x: Mask, backing: Mask) -> Mask
+    requires { ⌜ backing ≡ backers (stageOf stage) labels x ⌝ }
+    ensures { λ r. ⌜ r ≡ holders (stageOf stage) labels x ⌝ }
 {
-    let mut any = false;
-    let mut d = 0;
-    while d < disks {
-        any = any | (sets::has(x, d) & proposes(stage, labels[d], x));
-        d += 1;
+    match stage {
+        Stage::First => backing,
+        Stage::Second => backers(Stage::First, labels, x),
+        Stage::Third => backing,
     }
-    any
 }
 
-// "A candidate is a non-empty set X inside R."
-pub(crate) fn candidate(
-    stage: Stage,
-    disks: usize,
-    online: Mask,
-    labels: [Label; DISKS],
-    x: Mask,
-) -> bool
-    requires { do ⌜ disks ≤ (← ⟦DISKS⟧) ⌝ }
-    ensures { λ r. ⌜ r ≡ candidate (stageOf stage) disks online labels x ⌝ }
+// "A candidate is a non-empty set X inside R", which every member backs and some member holds: so it is not empty.
+pub(crate) fn fits(online: Mask, x: Mask, backing: Mask, holding: Mask) -> bool
+    ensures { λ r. ⌜ r ≡ (subset x (intersection online backing) && ltb 0 (intersection x holding)) ⌝ }
 {
-    if x == 0 {
-        return false;
-    }
-    if !sets::subset(x, online) {
-        return false;
-    }
-    (dissenters(stage, disks, labels, x) == 0) & some_propose(stage, disks, labels, x)
+    sets::subset(x, sets::intersection(online, backing)) & (0 < sets::intersection(x, holding))
 }

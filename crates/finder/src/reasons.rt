@@ -1,13 +1,13 @@
 // Why a set is no candidate of a stage.
 ghost use mathlib.Core.Path.{_≡_};
 ghost use mathlib.Core.Bool.{cond};
-ghost use Prim.Native.Nat.{_≤_};
+ghost use Prim.Native.Nat.{_^_, _≤_, _<_};
 ghost use Rattle.protocol.specs.declared.Reason.the-variants.{NoneProposes, IsCandidate};
 ghost use Rattle.protocol.specs.Diagnosis.{reasonFor};
 ghost use Rattle.finder.specs.Stages.{stageOf};
 use crate::Stage;
-use crate::candidates::dissenters;
-use crate::candidates::some_propose;
+use crate::candidates::backers;
+use crate::candidates::holders;
 use label::Label;
 use protocol::Reason;
 use sets::DISKS;
@@ -33,7 +33,7 @@ pub fn reason_for(
     labels: [Label; DISKS],
     x: Mask,
 ) -> Reason
-    requires { do ⌜ disks ≤ (← ⟦DISKS⟧) ⌝ }
+    requires { do ⌜ (disks ≤ (← ⟦DISKS⟧)) × (online < 2 ^ disks) ⌝ }
     ensures { λ r. ⌜ r ≡ reasonFor (stageOf stage) disks online labels x ⌝ }
 {
     if x == 0 {
@@ -43,9 +43,11 @@ pub fn reason_for(
     if 0 < unreachable {
         return Reason::OutOfReach(sets::lowest(unreachable));
     }
-    let disagree = dissenters(stage, disks, labels, x);
+    let backing = backers(stage, labels, x);
+    let disagree = sets::difference(x, backing);
     if 0 < disagree {
         return Reason::Disagrees(sets::lowest(disagree));
     }
-    candidate_if(some_propose(stage, disks, labels, x))
+    let holding = holders(stage, labels, x, backing);
+    candidate_if(0 < sets::intersection(x, holding))
 }

@@ -1,32 +1,42 @@
-// The search for the set. It tries few sets, and gives what the definition over all sets does.
+// The search for the set, among the sets that each stage lists and no others.
 ghost use mathlib.Core.Path.{_≡_};
 ghost use mathlib.Core.Bool.{cond};
 ghost use Prim.Native.Nat.{_^_, _≤_, _<_};
-ghost use Rattle.protocol.specs.Naming.{candidate, orLater, named};
-ghost use Rattle.protocol.specs.Finder.{another, among};
+ghost use Rattle.protocol.specs.Geometry.{mostDisks};
+ghost use Rattle.protocol.specs.Loops.{unionBelow};
+ghost use Rattle.protocol.specs.States.{tentativeAt};
+ghost use Rattle.protocol.specs.Finder.{among, find};
 ghost use Rattle.naming.specs.Meaning.{foundOf};
 ghost use Rattle.finder.specs.Stages.{stageOf};
-ghost use Rattle.finder.specs.Found.{isOne};
+ghost use Rattle.finder.specs.Found.{isNone, another};
 use crate::Stage;
-use crate::candidates::candidate;
+use crate::candidates::backers;
+use crate::candidates::fits;
+use crate::candidates::holders;
 use crate::stages::tried;
 use label::Label;
 use naming::Naming;
 use sets::DISKS;
 use sets::Mask;
 
-// One set more, if it is a candidate. Several disks may have the same.
-fn another(found: Naming, x: Mask, fits: bool) -> Naming
-    ensures { λ r. ⌜ foundOf r ≡ cond fits (another (foundOf found) x) (foundOf found) ⌝ }
+fn is_nothing(found: Naming) -> bool
+    ensures { λ r. ⌜ r ≡ isNone (foundOf found) ⌝ }
 {
-    if fits {
+    match found {
+        Naming::Nothing => true,
+        Naming::One(_) => false,
+        Naming::Several => false,
+    }
+}
+
+// One set more, if it is a candidate.
+fn another(found: Naming, x: Mask, is_candidate: bool) -> Naming
+    ensures { λ r. ⌜ foundOf r ≡ cond «is_candidate» (another (foundOf found) x) (foundOf found) ⌝ }
+{
+    if is_candidate {
         match found {
             Naming::Nothing => Naming::One(x),
-            Naming::One(y) => if y == x {
-                Naming::One(y)
-            } else {
-                Naming::Several
-            },
+            Naming::One(_) => Naming::Several,
             Naming::Several => Naming::Several,
         }
     } else {
@@ -34,68 +44,57 @@ fn another(found: Naming, x: Mask, fits: bool) -> Naming
     }
 }
 
-fn is_one(found: Naming, x: Mask) -> bool
-    ensures { λ r. ⌜ r ≡ isOne (foundOf found) x ⌝ }
-{
-    match found {
-        Naming::Nothing => false,
-        Naming::One(y) => y == x,
-        Naming::Several => false,
-    }
-}
-
-// The same for a set that is not known to be one. Where it is the one that was found it need not be tried again: mostly
-// the labels of all disks have the same.
-fn and_tried(
-    found: Naming,
-    stage: Stage,
-    disks: usize,
-    online: Mask,
-    labels: [Label; DISKS],
-    x: Mask,
-) -> Naming
-    requires { do ⌜ disks ≤ (← ⟦DISKS⟧) ⌝ }
-    ensures { λ r. ⌜ foundOf r
-        ≡ cond (candidate (stageOf stage) disks online labels x) (another (foundOf found) x) (foundOf found) ⌝ }
-{
-    if is_one(found, x) {
-        return found;
-    }
-    another(found, x, candidate(stage, disks, online, labels, x))
-}
-
-// The candidates of a stage, tried disk by disk.
+// What a stage finds: it goes along its list, the sets of the disks, ascending, but for empty ones and those that a
+// disk before had, and tests each.
 fn among(stage: Stage, disks: usize, online: Mask, labels: [Label; DISKS]) -> Naming
-    requires { do ⌜ disks ≤ (← ⟦DISKS⟧) ⌝ }
-    ensures { λ r. ⌜ foundOf r ≡ among (stageOf stage) disks online labels disks ⌝ }
+    requires { do ⌜ (disks ≤ (← ⟦DISKS⟧)) × (online < 2 ^ disks) ⌝ }
+    ensures { λ r. ⌜ foundOf r ≡ among (stageOf stage) disks online labels ⌝ }
 {
     let mut found = Naming::Nothing;
+    let mut seen = 0;
     let mut d = 0;
     while d < disks {
-        found = and_tried(found, stage, disks, online, labels, tried(stage, labels[d]));
+        let x = tried(stage, labels[d]);
+        if (0 < x) & !sets::has(seen, d) {
+            let backing = backers(stage, labels, x);
+            let holding = holders(stage, labels, x, backing);
+            found = another(found, x, fits(online, x, backing, holding));
+            seen = sets::union(seen, holding);
+        }
         d += 1;
     }
     found
 }
 
-fn or_later(found: Naming, later: Naming) -> Naming
-    ensures { λ r. ⌜ foundOf r ≡ orLater (foundOf found) (foundOf later) ⌝ }
+// The disks that are in any T. Mostly there is none, and then the first two stages have nothing to test.
+fn proposals(labels: [Label; DISKS]) -> Mask
+    ensures { λ r. ⌜ r ≡ unionBelow mostDisks (tentativeAt labels) ⌝ }
 {
-    match found {
-        Naming::Nothing => later,
-        Naming::One(x) => Naming::One(x),
-        Naming::Several => Naming::Several,
+    let mut set = 0;
+    let mut d = 0;
+    while d < DISKS {
+        let l = labels[d];
+        set = sets::union(set, l.tentative);
+        d += 1;
     }
+    set
 }
 
 // "The first stage with a candidate decides: one candidate is the set, more than one is refused with 14. No candidate
-// in any stage is 13." A sound state is within both bounds.
-pub fn named(disks: usize, online: Mask, labels: [Label; DISKS]) -> Naming
+// in any stage is 13." A stage is tried if those before it found nothing. A sound state is within both bounds.
+pub fn find(disks: usize, online: Mask, labels: [Label; DISKS]) -> Naming
     requires { do ⌜ (disks ≤ (← ⟦DISKS⟧)) × (online < 2 ^ disks) ⌝ }
-    ensures { λ r. ⌜ foundOf r ≡ named disks online labels ⌝ }
+    ensures { λ r. ⌜ foundOf r ≡ find disks online labels ⌝ }
 {
-    let first = among(Stage::First, disks, online, labels);
-    let second = among(Stage::Second, disks, online, labels);
-    let third = among(Stage::Third, disks, online, labels);
-    or_later(first, or_later(second, third))
+    if 0 < proposals(labels) {
+        let first = among(Stage::First, disks, online, labels);
+        if !is_nothing(first) {
+            return first;
+        }
+        let second = among(Stage::Second, disks, online, labels);
+        if !is_nothing(second) {
+            return second;
+        }
+    }
+    among(Stage::Third, disks, online, labels)
 }

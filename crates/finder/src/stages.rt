@@ -1,6 +1,6 @@
 // What each stage asks of a label.
 ghost use mathlib.Core.Path.{_≡_};
-ghost use Rattle.protocol.specs.Naming.{backs, proposes};
+ghost use Rattle.protocol.specs.Naming.{backs};
 ghost use Rattle.protocol.specs.Finder.{tried};
 ghost use Rattle.finder.specs.Stages.{stageOf};
 use crate::Stage;
@@ -18,18 +18,7 @@ pub(crate) fn backs(stage: Stage, l: Label, x: Mask) -> bool
     }
 }
 
-// "and some member has T = X", which only stage 2 asks.
-pub(crate) fn proposes(stage: Stage, l: Label, x: Mask) -> bool
-    ensures { λ r. ⌜ r ≡ proposes (stageOf stage) l x ⌝ }
-{
-    match stage {
-        Stage::First => true,
-        Stage::Second => l.tentative == x,
-        Stage::Third => true,
-    }
-}
-
-// Every candidate of a stage is the set that this gives for some member's label, so no other set need be tried.
+// The set of a label that the stage may test: in stage 2 the T, which "some member" must have.
 pub(crate) fn tried(stage: Stage, l: Label) -> Mask
     ensures { λ r. ⌜ r ≡ tried (stageOf stage) l ⌝ }
 {

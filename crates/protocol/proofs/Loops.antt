@@ -2,7 +2,8 @@
 use mathlib.Core.Path.{_≡_, refl, sym, ap, ap₂, _∙_}
 use mathlib.Core.Logic.{_≢_, _⊎_, inl, inr}
 use mathlib.Core.Bool.{Bool, true, false, not, cond, _&&_, _||_, or-true}
-use mathlib.Core.List.{List, [], _∷_, _++_, append-nil, append-assoc}
+use mathlib.Core.List.{List, [], _∷_, _++_, append-nil, append-assoc, List·Memᴰ, List·Memᴰ·head, List·Memᴰ·not-nil}
+use mathlib.Core.List.{List·Memᴰ·append-cases, List·Memᴰ·eq-of-singleton, Memᴰ·append-left, Memᴰ·append-right}
 use Prim.Native.Nat.{ℕ, zero, suc, _+_, _≤_, _<_}
 use native.Mathlib.Omega.{arith}
 use lib.Dec.{eqb, ltb}
@@ -101,6 +102,15 @@ unfolding unionBelow someBelow
 has-union-below f x zero = has-empty x
 has-union-below f x (suc n) = has-union (unionBelow n f) (f n) x ∙ rw (has-union-below f x n)
 
+-- the parts of a union that is empty are
+pub empty-parts : (n : ℕ) (f : ℕ → ℕ) → unionBelow n f ≡ 0 → (d : ℕ) → d < n → f d ≡ 0
+empty-parts n f none d l = same-members (f d) 0 (λ e. go e (test (has (f d) e)))
+  where
+    go : (e : ℕ) → Test (has (f d) e) → has (f d) e ≡ has 0 e
+    go e (fails m) = m ∙ sym (has-empty e)
+    go e (passes m) =
+        clash (has-union-below f e n ∙ some-of n (λ i. has (f i) e) d l m) (rw none (has-empty e))
+
 -- a set that stands under a condition
 pub has-if : (t : Bool) (s d : ℕ) → has (cond t s 0) d ≡ (t && has s d)
 has-if true s d = refl
@@ -184,7 +194,7 @@ module _ {A : Type 0} {P : A → Type 0} where
 
 -- a loop that gives nothing before a begins with what it gives for a
 module _ {A : Type 0} (f : ℕ → List A) (a : ℕ) (nothing : (i : ℕ) → i < a → f i ≡ []) where
-  nothing-before : (i : ℕ) → i ≤ a → ascending i f ≡ []
+  pub nothing-before : (i : ℕ) → i ≤ a → ascending i f ≡ []
   unfolding ascending
   nothing-before zero l = refl
   nothing-before (suc i) l = rw (nothing-before i (omega arith)) (nothing i l)
@@ -238,6 +248,45 @@ pub for-none : {A : Type 0} (n : ℕ) (f : ℕ → List A) → forEach n 0 f ≡
 unfolding forEach ascending
 for-none zero f = refl
 for-none (suc n) f = rw (for-none n f, has-empty n)
+
+-- a loop that gives at most one element each time is no longer than its bound
+pub ascending-length : {A : Type 0} (n : ℕ) (f : ℕ → List A) → ((d : ℕ) → length (f d) ≤ 1)
+    → length (ascending n f) ≤ n
+unfolding ascending
+ascending-length zero f h = omega arith
+ascending-length (suc n) f h =
+    omega (arith, length-append (ascending n f) (f n), h n, ascending-length n f h)
+
+pub length-if : {A : Type 0} (t : Bool) (x : A) → length (cond t (x ∷ []) []) ≤ 1
+length-if true x = omega arith
+length-if false x = omega arith
+
+-- what a loop lists that gives an element under a condition
+module _ {A : Type 0} (p : ℕ → Bool) (f : ℕ → A) where
+  abbrev chosen : ℕ → List A
+  chosen n = ascending n (λ d. cond (p d) (f d ∷ []) [])
+
+  pub ascending-lists : (n : ℕ) (x : A) → List·Memᴰ x (chosen n) → (d : ℕ) × (d < n) × (p d ≡ true) × (f d ≡ x)
+  unfolding ascending
+  ascending-lists zero x m = absurd (List·Memᴰ·not-nil m)
+  ascending-lists (suc n) x m = go (p n) refl (ascending-lists n x) (List·Memᴰ·append-cases (chosen n) m)
+    where
+      go : (b : Bool) → p n ≡ b → (List·Memᴰ x (chosen n) → (d : ℕ) × (d < n) × (p d ≡ true) × (f d ≡ x))
+          → List·Memᴰ x (chosen n) ⊎ List·Memᴰ x (cond b (f n ∷ []) [])
+          → (d : ℕ) × (d < suc n) × (p d ≡ true) × (f d ≡ x)
+      go b e ih (inl k) = let (d, l, q, same) = ih k in (d, omega arith, q, same)
+      go true e ih (inr k) = (n, omega arith, e, sym (List·Memᴰ·eq-of-singleton k))
+      go false e ih (inr k) = absurd (List·Memᴰ·not-nil k)
+
+  pub lists-ascending : (n d : ℕ) (x : A) → d < n → p d ≡ true → f d ≡ x → List·Memᴰ x (chosen n)
+  unfolding ascending
+  lists-ascending zero d x l q same = absurd (omega arith)
+  lists-ascending (suc n) d x l q same = go (same-or-not d n) (lists-ascending n d x)
+    where
+      go : (d ≡ n) ⊎ (d ≢ n) → (d < n → p d ≡ true → f d ≡ x → List·Memᴰ x (chosen n))
+          → List·Memᴰ x (chosen n ++ cond (p n) (f n ∷ []) [])
+      go (inl e) ih = Memᴰ·append-right (chosen n) (rw (rw e at q) (List·Memᴰ·head (sym same ∙ ap f e)))
+      go (inr ne) ih = Memᴰ·append-left (cond (p n) (f n ∷ []) []) (ih (omega arith) q same)
 
 -- ---- loops that give the same
 

@@ -35,7 +35,7 @@ module _ (x failing : ℕ) (p : ℕ → Bool) (is : (d : ℕ) → has failing d 
       let (m, failed) = and-parts _ _ (sym (is (lowest failing)) ∙ lowest-has failing any) in
       (m, not-true _ failed, λ e l q. not-false _ (sym (is e ∙ rw q) ∙ lowest-least failing e l))
 
-  none-fails : failing ≡ 0 → (d : ℕ) → has x d ≡ true → p d ≡ true
+  pub none-fails : failing ≡ 0 → (d : ℕ) → has x d ≡ true → p d ≡ true
   none-fails e d m = not-false _ (sym (is d ∙ rw m) ∙ rw e (has-empty d))
 
 -- ---- the reason

@@ -1,38 +1,63 @@
--- A finder of the set that a restart names. It tries few sets, since every candidate of a stage is one that some disk's
--- own label has. It stands in no promise.
+-- Document 02, 2.4: "list for each stage at most n sets to test, proved to hold every candidate of that stage". The
+-- finder tests the sets of these lists and no other; so a restart's code promises.
 use mathlib.Core.Path.{_≡_}
-use mathlib.Core.Bool.{cond}
-use mathlib.Core.List.{List}
-use Prim.Native.Nat.{ℕ, zero, suc, _^_, _<_}
-use lib.Dec.{eqb}
+use mathlib.Core.Bool.{Bool, cond, not, _&&_}
+use mathlib.Core.List.{List, [], _∷_, List·Memᴰ, List·Nodup}
+use Prim.Native.Nat.{ℕ, _^_, _≤_, _<_}
+use lib.Dec.{eqb, ltb}
+use lib.ListN.{length}
 use Rattle.label.specs.declared.Label.{Label}
+use Rattle.protocol.specs.Loops.{ascending, someBelow}
 use Rattle.protocol.specs.States.{labelAt}
-use Rattle.protocol.specs.Naming.{Stage, first, second, third, Found, none, one}
-use Rattle.protocol.specs.Naming.{several, candidate, stages, decide, named}
+use Rattle.protocol.specs.Naming.{Stage, first, second, third, Found, Candidate, candidate, foundIn}
+use Rattle.protocol.specs.Naming.{stages, decide, named}
 
--- the set that a stage tries for a disk
+-- ---- the lists
+
+-- the set of a disk's label that a stage may test: in stage 2 that of a member that has it as its T
 unfoldable pub tried : Stage → Label → ℕ
 tried first l = l .tentative
 tried second l = l .tentative
 tried third l = l .committed
 
--- one candidate more
-unfoldable pub another : Found → ℕ → Found
-another none x = one x
-another (one y) x = cond (eqb y x) (one y) several
-another several x = several
+module _ (stage : Stage) (labels : List Label) where
+  abbrev pub triedAt : ℕ → ℕ
+  triedAt d = tried stage (labelAt labels d)
 
--- the different candidates among those of the first i disks
-unfoldable pub among : Stage → ℕ → ℕ → List Label → ℕ → Found
-among stage n online labels zero = none
-among stage n online labels (suc i) =
-    cond (candidate stage n online labels (tried stage (labelAt labels i)))
-    (another (among stage n online labels i) (tried stage (labelAt labels i)))
-    (among stage n online labels i)
+  -- a disk below d has the same set
+  unfoldable pub repeated : ℕ → Bool
+  repeated d = someBelow d (λ e. eqb (triedAt d) (triedAt e))
+
+  -- d has a set, and no disk below d has the same
+  abbrev pub isListed : ℕ → Bool
+  isListed d = ltb 0 (triedAt d) && not (repeated d)
+
+-- the sets to test: those of the disks, ascending, each once
+unfoldable pub shortlist : Stage → ℕ → List Label → List ℕ
+shortlist stage n labels = ascending n (λ d. cond (isListed stage labels d) (triedAt stage labels d ∷ []) [])
+
+-- "at most n sets to test, proved to hold every candidate of that stage": for every n, labels and reach
+pub record ShortlistRight : Type 0 where
+  pub few : (stage : Stage) (n : ℕ) (labels : List Label) → length (shortlist stage n labels) ≤ n
+  -- disks that share a set are no two candidates
+  pub once : (stage : Stage) (n : ℕ) (labels : List Label) → List·Nodup (shortlist stage n labels)
+  pub every-candidate : (stage : Stage) (n online : ℕ) (labels : List Label) → online < 2 ^ n
+      → (x : ℕ) → Candidate stage online labels x → List·Memᴰ x (shortlist stage n labels)
+
+-- ---- the finder
+
+-- the sets of a list that pass a test
+unfoldable pub passing : (ℕ → Bool) → List ℕ → List ℕ
+passing p [] = []
+passing p (x ∷ xs) = cond (p x) (x ∷ passing p xs) (passing p xs)
+
+-- what a stage finds: which sets of its list are candidates
+unfoldable pub among : Stage → ℕ → ℕ → List Label → Found
+among stage n online labels = foundIn (passing (candidate stage n online labels) (shortlist stage n labels))
 
 unfoldable pub find : ℕ → ℕ → List Label → Found
-find n online labels = decide (λ stage. among stage n online labels n) stages
+find n online labels = decide (λ stage. among stage n online labels) stages
 
--- It finds what the definition names, for every n.
+-- It finds what the definition over all sets names, for every n.
 abbrev pub FindsNamed : Type 0
 FindsNamed = (n online : ℕ) (labels : List Label) → online < 2 ^ n → find n online labels ≡ named n online labels

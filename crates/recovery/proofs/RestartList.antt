@@ -16,7 +16,7 @@ use Rattle.protocol.specs.Loops.{ascending, forEach}
 use Rattle.protocol.specs.States.{source}
 use Rattle.protocol.specs.Stores.{Store, copy, clear}
 use Rattle.protocol.specs.Lists.{copies, clears, resync, resyncs}
-use Rattle.protocol.proofs.Loops.{for-length, same-iterations}
+use Rattle.protocol.proofs.Loops.{for-length, for-none, same-iterations}
 use Rattle.protocol.proofs.Iterations.{even-length}
 use Rattle.budget.specs.Runs.{Progress, runAll}
 use Rattle.budget.proofs.Runs.{in-sequence}
@@ -40,6 +40,11 @@ pub resyncs-by-regions : (n b set : ℕ) (labels : List Label) → n ≤ mostDis
 unfolding resyncs resyncsOf
 resyncs-by-regions n b set labels few known =
     same-iterations (regions b) _ _ (λ r l. rw (dirty-on-any labels r n few set known))
+
+-- no region is dirty, so none is copied
+pub nothing-dirty : (n b set : ℕ) → resyncsOf n b 0 set ≡ []
+unfolding resyncsOf forEach
+nothing-dirty n b set = for-none (regions b) (resync n b set)
 
 -- the copies of a region are no more than a region's blocks times the disks
 pub resync-most : (blocks count : ℕ) → blocks ≤ regionSize → count ≤ mostDisks → blocks * count ≤ regionSize * mostDisks

@@ -49,7 +49,7 @@ fn found_by(is_sound: bool, s: State) -> Naming
 {
     if is_sound {
         let labels = s.labels;
-        finder::named(s.disks as usize, s.online, labels)
+        finder::find(s.disks as usize, s.online, labels)
     } else {
         Naming::Nothing
     }
@@ -63,8 +63,10 @@ pub fn restart(s: State, area: &mut [u8], budget: u16) -> Answer
     let is_sound = sound(s);
     let found = found_by(is_sound, s);
     let refusal = restart_refusal(is_sound, s, area.len(), found);
-    if refusal == 0 {
-        restart_stores(s, area, the_set(found), budget)
+    let set = the_set(found);
+    // Where nothing is refused the set has members. Compiled code is told so, and asks at no store whether it has any.
+    if (refusal == 0) & (0 < set) {
+        restart_stores(s, area, set, budget)
     } else {
         without_stores(s, refusal)
     }

@@ -36,6 +36,9 @@ pub(crate) fn resyncs_length(dirty: RegionMap, size: Size, set: Mask) -> usize
     ensures { λ k. ⌜ (k ≡ length (resyncsOf (size .disks) (size .blocks) dirty set))
         × (k ≤ mostRegions * ((regionSize + 1) * mostDisks)) ⌝ }
 {
+    if dirty == 0 {
+        return 0;
+    }
     let regions = bays::region_count(size.blocks);
     let mut stores = 0;
     let mut r = 0;
@@ -80,6 +83,9 @@ pub(crate) fn resync_all(run: Run, area: &mut [u8], dirty: RegionMap, size: Size
         ≡ runAll (size .blocks) (resyncsOf (size .disks) (size .blocks) dirty set)
         (progress run (now (area .entry))) ⌝ }
 {
+    if dirty == 0 {
+        return run;
+    }
     let regions = bays::region_count(size.blocks);
     let mut run = run;
     let mut r = 0;

@@ -10,6 +10,7 @@ use Rattle.budget.specs.Runs.{progress, runAll}
 use Rattle.budget.proofs.Runs.{run-next}
 use Rattle.budget.proofs.Sizes.{still-fits}
 use Rattle.recovery.specs.RegionLists.{resyncOf, resyncsOf}
+use Rattle.recovery.proofs.RestartList.{nothing-dirty}
 use Rattle.recovery.proofs.resyncing.resync_all.Statement.{statement}
 use Rattle.recovery.proofs.resyncing.resync_all.Tie as tie
 
@@ -24,7 +25,7 @@ abbrev μ-loop : tie.MeasureT-loop
 
 resync-requires : tie.Need-resync-requires Inv-loop μ-loop
 resync-requires c κs =
-    let pre = c .before .before .before .before .before .pre in
+    let pre = c .before .before .before .before .before .before .pre in
     (still-fits (pre .0) (c .before .before .loop .inv .1), pre .1, pre .2, omega arith)
 
 loop-again : tie.Need-loop-again Inv-loop μ-loop
@@ -35,13 +36,17 @@ loop-again c = (
 )
 
 returns : tie.Need-returns Inv-loop μ-loop
+unfolding runAll
+returns c = rw (c .if1 .taken, nothing-dirty)
+
+returns-2 : tie.Need-returns-2 Inv-loop μ-loop
 unfolding resyncsOf
-returns c =
-    let e : c .before .loop .r ≡ regions (c .before .before .before .before .args .size .blocks) = omega arith in
+returns-2 c =
+    let e : c .before .loop .r ≡ regions (c .before .before .before .before .before .args .size .blocks) = omega arith in
     rw e at (c .before .loop .inv .2)
 
 pub resync-all-spec : {M : Type 1} → statement M
 unfolding ascending runAll
 resync-all-spec =
-    tie.close (tie.spec Inv-loop μ-loop (search needs) (λ c. (omega arith, refl, refl)) resync-requires
-    (λ c. omega arith) (λ c. omega arith) loop-again (λ c. omega arith) returns)
+    tie.close (tie.spec Inv-loop μ-loop returns (search needs) (λ c. (omega arith, refl, refl)) resync-requires
+    (λ c. omega arith) (λ c. omega arith) loop-again (λ c. omega arith) returns-2)

@@ -8,6 +8,7 @@ use Rattle.protocol.specs.Geometry.{mostDisks, regionSize, regions}
 use Rattle.protocol.specs.Loops.{ascending}
 use Rattle.budget.proofs.Lengths.{length-next}
 use Rattle.recovery.specs.RegionLists.{resyncOf, resyncsOf}
+use Rattle.recovery.proofs.RestartList.{nothing-dirty}
 use Rattle.recovery.proofs.resyncing.resyncs_length.Statement.{statement}
 use Rattle.recovery.proofs.resyncing.resyncs_length.Tie as tie
 
@@ -22,7 +23,7 @@ abbrev μ-loop : tie.MeasureT-loop
 resync-length-requires : tie.Need-resync-length-requires Inv-loop μ-loop
 unfolding regions
 resync-length-requires c κs =
-    let start = c .before .before .before in
+    let start = c .before .before .before .before in
     (start .pre .1, omega arith)
 
 add-stores : tie.Need-add-stores Inv-loop μ-loop
@@ -38,13 +39,16 @@ loop-again c =
     (omega arith, length-next _ _ (c .before .before .loop .inv .1) (c .resync-length .ensures .0), omega arith)
 
 returns : tie.Need-returns Inv-loop μ-loop
+returns c = (rw (c .if1 .taken, nothing-dirty), omega arith)
+
+returns-2 : tie.Need-returns-2 Inv-loop μ-loop
 unfolding regions resyncsOf
-returns c =
-    let e : c .before .loop .r ≡ regions (c .before .before .before .args .size .blocks) = omega arith in
+returns-2 c =
+    let e : c .before .loop .r ≡ regions (c .before .before .before .before .args .size .blocks) = omega arith in
     (rw e at (c .before .loop .inv .1), omega arith)
 
 pub resyncs-length-spec : {M : Type 1} → statement M
 unfolding ascending
 resyncs-length-spec =
-    tie.close (tie.spec Inv-loop μ-loop (search needs) (λ c. (omega arith, refl, omega arith))
-    resync-length-requires add-stores add-r (λ c. omega arith) loop-again returns)
+    tie.close (tie.spec Inv-loop μ-loop returns (search needs) (λ c. (omega arith, refl, omega arith))
+    resync-length-requires add-stores add-r (λ c. omega arith) loop-again returns-2)
