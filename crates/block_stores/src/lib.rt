@@ -40,7 +40,8 @@ pub fn store_blocks(
     run
 }
 
-// Block k of one disk on each disk of a set without it, ascending. It is loaded once: no store of the set changes it.
+// Block k of one disk on each disk of a set without it, ascending. It is loaded "once for all other members" (document
+// 02, 2.4): no store of the set changes it.
 fn copy_block(run: Run, area: &mut [u8], size: Size, from: usize, set: Mask, k: usize) -> Run
     requires { ⌜ Fits (size .disks) (size .blocks) (now area) × (from < size .disks) × (has set from ≡ false)
         × (k < size .blocks) ⌝ }

@@ -31,7 +31,8 @@ module _ (stage : Stage) (labels : List Label) (x : ℕ) where
   unfolding backers
   has-backers = has-disks-where mostDisks _
 
-  pub has-holders : (d : ℕ) → has (holders stage labels x) d ≡ (ltb d mostDisks && eqb (tried stage (labelAt labels d)) x)
+  pub has-holders : (d : ℕ)
+      → has (holders stage labels x) d ≡ (ltb d mostDisks && eqb (tried stage (labelAt labels d)) x)
   unfolding holders
   has-holders = has-disks-where mostDisks _
 
@@ -49,13 +50,16 @@ module _ (stage : Stage) (n online : ℕ) (labels : List Label) (fit : n ≤ mos
       let holds : has (holders stage labels x) d ≡ true = has-holders stage labels x d
       ∙ rw (lt-ltb d mostDisks (disk d m), eq-eqb _ _ (is-tried stage _ x (c .each d m) z)) in
       rw (
-        subset-members x backed .1 (λ d m. has-intersection online _ d
-            ∙ rw (c .inside d m, has-backers stage labels x d, lt-ltb d mostDisks (disk d m), if-backs stage _ x (c .each d m))),
+        subset-members x backed .1 (λ d m. has-intersection online _ d ∙ rw (c .inside d m, backs-it d m)),
         lt-ltb 0 held (non-empty held d (has-intersection x _ d ∙ rw (m, holds))),
       )
     where
       disk : (d : ℕ) → has x d ≡ true → d < mostDisks
       disk d m = omega (arith, candidate-below stage n online labels known x c d m)
+
+      backs-it : (d : ℕ) → has x d ≡ true → has (backers stage labels x) d ≡ true
+      backs-it d m =
+          has-backers stage labels x d ∙ rw (lt-ltb d mostDisks (disk d m), if-backs stage _ x (c .each d m))
 
   masks-by : (subset x backed && ltb 0 held) ≡ true → Candidate stage online labels x
   masks-by e =
@@ -93,7 +97,8 @@ module _ (stage : Stage) (n online : ℕ) (labels : List Label) (fit : n ≤ mos
 
     pub dissenters-by-masks : difference x (backers stage labels x) ≡ dissenters stage n labels x
     unfolding dissenters
-    dissenters-by-masks = same-members _ _ (λ d. has-difference x _ d ∙ go d (test (has x d)) ∙ sym (has-disks-where n _ d))
+    dissenters-by-masks =
+        same-members _ _ (λ d. has-difference x _ d ∙ go d (test (has x d)) ∙ sym (has-disks-where n _ d))
       where
         go : (d : ℕ) → Test (has x d) → (has x d && not (has (backers stage labels x) d))
             ≡ (ltb d n && (has x d && not (backs stage (labelAt labels d) x)))

@@ -2,7 +2,7 @@
 use mathlib.Core.Path.{_≡_, refl, sym, ap, _∙_}
 use mathlib.Core.Bool.{Bool, true, false, cond, not, _&&_, _||_, or-false}
 use mathlib.Core.List.{List, [], _∷_, _++_, append-nil}
-use Prim.Native.Nat.{ℕ, zero, suc, _≤_, _<_}
+use Prim.Native.Nat.{ℕ, suc, _≤_, _<_}
 use native.Mathlib.Omega.{arith}
 use lib.Dec.{eqb, ltb}
 use borrow.Author.Tests.{eqb-true, lt-ltb, ltb-true, not-false}
@@ -15,22 +15,13 @@ use Rattle.protocol.specs.Loops.{ascending, someBelow, unionBelow}
 use Rattle.protocol.specs.States.{tentativeAt}
 use Rattle.protocol.specs.Naming.{Stage, first, second, Found, none, one, several, foundIn, orLater}
 use Rattle.protocol.specs.Finder.{tried, triedAt, repeated, isListed, shortlist, passing, among}
-use Rattle.protocol.proofs.Loops.{empty-parts, nothing-before}
+use Rattle.protocol.proofs.Loops.{empty-parts}
+use Rattle.protocol.proofs.Finder.{passing-append, nothing-listed}
 use Rattle.finder.specs.Masks.{holders}
 use Rattle.finder.specs.Found.{isNone, another}
 use Rattle.finder.proofs.Masks.{has-holders}
 
 -- ---- what was found
-
-pub passing-append : (p : ℕ → Bool) (xs ys : List ℕ) → passing p (xs ++ ys) ≡ passing p xs ++ passing p ys
-unfolding passing
-passing-append p [] ys = refl
-passing-append p (x ∷ xs) ys = rw (passing-append p xs ys) (go (p x))
-  where
-    go : (t : Bool) → cond t (x ∷ (passing p xs ++ passing p ys)) (passing p xs ++ passing p ys)
-        ≡ cond t (x ∷ passing p xs) (passing p xs) ++ passing p ys
-    go true = refl
-    go false = refl
 
 found-more : (xs : List ℕ) (x : ℕ) → foundIn (xs ++ x ∷ []) ≡ another (foundIn xs) x
 unfolding foundIn another
@@ -48,8 +39,8 @@ module _ (stage : Stage) (labels : List Label) (p : ℕ → Bool) where
   not-listed d e = rw (e, append-nil)
 
   pub listed : (d : ℕ) → isListed stage labels d ≡ true
-      → foundBefore (suc d) ≡ cond (p (triedAt stage labels d)) (another (foundBefore d) (triedAt stage labels d))
-      (foundBefore d)
+      → foundBefore (suc d)
+      ≡ cond (p (triedAt stage labels d)) (another (foundBefore d) (triedAt stage labels d)) (foundBefore d)
   unfolding shortlist ascending passing
   listed d e = rw (e, passing-append p (shortlist stage d labels)) (go (p (triedAt stage labels d)))
     where
@@ -115,22 +106,7 @@ found-later none later e = refl
 found-later (one x) later e = clash e refl
 found-later several later e = clash e refl
 
--- after the last stage there is nothing more to find
-pub found-last : (f : Found) → orLater f none ≡ f
-unfolding orLater
-found-last none = refl
-found-last (one x) = refl
-found-last several = refl
-
--- a stage without a set to test
-nothing-listed : (stage : Stage) (n online : ℕ) (labels : List Label)
-    → ((d : ℕ) → d < n → triedAt stage labels d ≡ 0) → among stage n online labels ≡ none
-unfolding among shortlist passing foundIn
-nothing-listed stage n online labels empty =
-    let f : ℕ → List ℕ = λ d. cond (isListed stage labels d) (triedAt stage labels d ∷ []) [] in
-    rw (nothing-before f n (λ d l. rw (empty d l)) n (omega arith))
-
--- where no label has a T, the first two stages are
+-- where no label has a T, the first two stages have nothing to test
 pub nothing-proposed : (n online : ℕ) (labels : List Label) (later : Found) → n ≤ mostDisks
     → unionBelow mostDisks (tentativeAt labels) ≡ 0
     → orLater (among first n online labels) (orLater (among second n online labels) later) ≡ later

@@ -38,7 +38,7 @@ pub(crate) fn holders(stage: Stage, labels: [Label; DISKS], x: Mask, backing: Ma
     }
 }
 
-// "A candidate is a non-empty set X inside R", which every member backs and some member holds: so it is not empty.
+// "A candidate is a non-empty set X inside R": every member backs it, and some member holds it, so it has one.
 pub(crate) fn fits(online: Mask, x: Mask, backing: Mask, holding: Mask) -> bool
     ensures { λ r. ⌜ r ≡ (subset x (intersection online backing) && ltb 0 (intersection x holding)) ⌝ }
 {

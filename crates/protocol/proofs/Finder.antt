@@ -1,28 +1,29 @@
 -- The lists of sets to test are right, and the finder gives what the definition names, for every n. Assumes nothing.
 use mathlib.Core.Path.{_≡_, refl, sym, _∙_}
-use mathlib.Core.Logic.{_≢_, _⊎_, inl, inr, ∥∥₁-elim}
+use mathlib.Core.Logic.{_≢_, inl, inr, ∥∥₁-elim}
 use mathlib.Core.HLevel.{⊥-prop}
-use mathlib.Core.Bool.{Bool, true, false, cond, not, _&&_}
-use mathlib.Core.List.{List, [], _∷_, List·Memᴰ, List·Memᴰ·head, List·Memᴰ·tail, List·Memᴰ·not-nil}
-use mathlib.Core.List.{List·Memᴰ·cases-cons, List·Memᴰ·eq-of-singleton, List·Mem, List·Nodup, nodup-nil, nodup-cons}
+use mathlib.Core.Bool.{Bool, true, false, cond, not}
+use mathlib.Core.List.{List, [], _∷_, _++_, List·Memᴰ, List·Memᴰ·head, List·Memᴰ·tail, List·Memᴰ·not-nil}
+use mathlib.Core.List.{List·Memᴰ·cases-cons, List·Memᴰ·eq-of-singleton, List·Nodup, nodup-nil, nodup-cons}
 use mathlib.Core.List.{nodup-append, not-mem-nil}
 use Prim.Native.Nat.{ℕ, zero, suc, _^_, _≤_, _<_}
 use native.Mathlib.Omega.{arith}
 use lib.Dec.{eqb, ltb}
 use lib.ListN.{length}
-use borrow.Author.Tests.{eqb-true, eq-eqb, ltb-true, lt-ltb, not-true}
+use borrow.Author.Tests.{eqb-true, eq-eqb, lt-ltb, not-true}
 use Rattle.sets.proofs.Tests.{Test, passes, fails, test, clash, and-parts}
 use Rattle.sets.proofs.Bounds.{below-pow}
 use Rattle.label.specs.declared.Label.{Label}
 use Rattle.protocol.specs.declared.State.{State}
 use Rattle.protocol.specs.Geometry.{mostDisks}
-use Rattle.protocol.specs.Loops.{ascending, someBelow}
+use Rattle.protocol.specs.Loops.{ascending}
 use Rattle.protocol.specs.Soundness.{Sound}
-use Rattle.protocol.specs.Naming.{Stage, first, second, third, Found, Backs, Proposes, Candidate}
-use Rattle.protocol.specs.Naming.{Exactly, no-set, one-set, several-sets, candidate, foundIn, stages, foundBy}
+use Rattle.protocol.specs.Naming.{Stage, first, second, third, none, Backs, Proposes, Candidate, Exactly}
+use Rattle.protocol.specs.Naming.{no-set, one-set, several-sets, candidate, foundIn, stages, foundBy}
 use Rattle.protocol.specs.Finder.{tried, triedAt, repeated, isListed, shortlist, ShortlistRight}
 use Rattle.protocol.specs.Finder.{passing, among, find, FindsNamed}
-use Rattle.protocol.proofs.Loops.{some-at, some-of, length-if, ascending-length, ascending-lists, lists-ascending}
+use Rattle.protocol.proofs.Loops.{some-at, some-of, nothing-before, length-if, ascending-length}
+use Rattle.protocol.proofs.Loops.{ascending-lists, lists-ascending}
 use Rattle.protocol.proofs.Naming.{candidate-if, candidate-below, if-candidate}
 use Rattle.protocol.proofs.Naming.{exactly-map, decide-right, decides-same, named-names}
 
@@ -149,6 +150,16 @@ module _ (p : ℕ → Bool) where
           rw e (exactly-map (further y xs)
           (λ x (m, q). elim (List·Memᴰ·cases-cons m) [ inl same ↦ clash (rw same at q) e | inr k ↦ (k, q) ]) h)
 
+pub passing-append : (p : ℕ → Bool) (xs ys : List ℕ) → passing p (xs ++ ys) ≡ passing p xs ++ passing p ys
+unfolding passing
+passing-append p [] ys = refl
+passing-append p (x ∷ xs) ys = rw (passing-append p xs ys) (go (p x))
+  where
+    go : (t : Bool) → cond t (x ∷ (passing p xs ++ passing p ys)) (passing p xs ++ passing p ys)
+        ≡ cond t (x ∷ passing p xs) (passing p xs) ++ passing p ys
+    go true = refl
+    go false = refl
+
 module _ (n online : ℕ) (labels : List Label) (known : online < 2 ^ n) where
   among-right : (stage : Stage) → Exactly (Candidate stage online labels) (among stage n online labels)
   unfolding among
@@ -157,6 +168,14 @@ module _ (n online : ℕ) (labels : List Label) (known : online < 2 ^ n) where
       (λ x (m, e). candidate-if stage n online labels known x e)
       (λ x c. (every-candidate stage labels n online known x c, if-candidate stage n online labels known x c))
       (passing-right (candidate stage n online labels) (shortlist stage n labels) (once stage labels n))
+
+-- a stage without a set to test
+pub nothing-listed : (stage : Stage) (n online : ℕ) (labels : List Label)
+    → ((d : ℕ) → d < n → triedAt stage labels d ≡ 0) → among stage n online labels ≡ none
+unfolding among shortlist passing foundIn
+nothing-listed stage n online labels empty =
+    let f : ℕ → List ℕ = λ d. cond (isListed stage labels d) (triedAt stage labels d ∷ []) [] in
+    rw (nothing-before f n (λ d l. rw (empty d l)) n (omega arith))
 
 pub finds-named : FindsNamed
 unfolding find

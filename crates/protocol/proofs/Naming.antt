@@ -162,6 +162,13 @@ one-not-none x e = absurd (let z : _≡_ {A = ℕ} 0 1 = cc in omega arith)
 several-not-none : several ≢ none
 several-not-none e = absurd (let z : _≡_ {A = ℕ} 0 1 = cc in omega arith)
 
+-- after the last stage there is nothing more to find
+pub found-last : (f : Found) → orLater f none ≡ f
+unfolding orLater
+found-last none = refl
+found-last (one x) = refl
+found-last several = refl
+
 -- what finds exactly the candidates of each stage gives the answer of these stages ..
 module _ (online : ℕ) (labels : List Label) (found : Stage → Found)
     (right : (stage : Stage) → Exactly (Candidate stage online labels) (found stage)) where

@@ -34,7 +34,8 @@ returns-3 c =
     let start = reached .before .before .before in
     let a = start .args in
     let in-reach : difference (a .x) (a .online) ≡ 0 = omega (arith, reached .before .difference .ensures) in
-    let disagree = asked .before .difference2 .ensures ∙ ap (difference (a .x)) (asked .before .before .backers .ensures)
+    let backing = asked .before .before .backers .ensures in
+    let disagree = asked .before .difference2 .ensures ∙ ap (difference (a .x)) backing
     ∙ dissenters-by-masks (stageOf (a .stage)) (a .disks) (a .online) (a .labels) (start .pre .0) (start .pre .1) (a .x)
     in-reach in
     rw (

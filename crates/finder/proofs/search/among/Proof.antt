@@ -63,5 +63,6 @@ returns c =
 pub among-spec : {M : Type 1} → statement M
 unfolding someBelow shortlist ascending passing foundIn
 among-spec =
-    tie.close (tie.spec Inv-loop μ-loop (λ c. (omega arith, λ e l some. has-empty e, refl)) (λ c. omega arith) (λ c. omega arith) (search needs)
-    (search needs) (search needs) (search needs) (search needs) (search needs) (search needs) (λ c. omega arith) (λ c. omega arith) loop-again returns)
+    tie.close (tie.spec Inv-loop μ-loop (λ c. (omega arith, λ e l some. has-empty e, refl)) (λ c. omega arith)
+    (λ c. omega arith) (search needs) (search needs) (search needs) (search needs) (search needs) (search needs)
+    (search needs) (λ c. omega arith) (λ c. omega arith) loop-again returns)

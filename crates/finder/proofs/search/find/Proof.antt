@@ -6,7 +6,8 @@ use borrow.Author.Tests.{not-true, not-false}
 use borrow.Author.Needs.{needs}
 use Rattle.protocol.specs.Naming.{decide}
 use Rattle.protocol.specs.Finder.{find}
-use Rattle.finder.proofs.Walk.{found-here, found-later, found-last, nothing-proposed}
+use Rattle.protocol.proofs.Naming.{found-last}
+use Rattle.finder.proofs.Walk.{found-here, found-later, nothing-proposed}
 use Rattle.finder.proofs.search.find.Statement.{statement}
 use Rattle.finder.proofs.search.find.Tie as tie
 

@@ -42,7 +42,8 @@ returns c = rw (c .if1 .taken, nothing-dirty)
 returns-2 : tie.Need-returns-2 Inv-loop μ-loop
 unfolding resyncsOf
 returns-2 c =
-    let e : c .before .loop .r ≡ regions (c .before .before .before .before .before .args .size .blocks) = omega arith in
+    let size = c .before .before .before .before .before .args .size in
+    let e : c .before .loop .r ≡ regions (size .blocks) = omega arith in
     rw e at (c .before .loop .inv .2)
 
 pub resync-all-spec : {M : Type 1} → statement M
