@@ -59,7 +59,7 @@ module _ (stage : Stage) (labels : List Label) where
           → Test (repeated stage labels d) → (e : ℕ) × (e ≤ d) × (at e ≡ x) × (repeated stage labels e ≡ false)
       go lower (fails p) = (d, omega arith, same, p)
       go lower (passes p) =
-          let (e, before, q) = some-at d (λ e. eqb (at d) (at e)) p in
+          let (e, before, q) = some-at _ (λ e. eqb (at d) (at e)) p in
           let (i, le, here, new) = lower e x (omega arith) (sym (eqb-true _ _ q) ∙ same) in
           (i, omega arith, here, new)
 

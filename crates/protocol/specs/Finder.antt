@@ -1,5 +1,5 @@
 -- Document 02, 2.4: "list for each stage at most n sets to test, proved to hold every candidate of that stage". The
--- finder tests the sets of these lists and no other; so a restart's code promises.
+-- finder tests the sets of these lists and no other; what it finds is what the code of the search promises.
 use mathlib.Core.Path.{_≡_}
 use mathlib.Core.Bool.{Bool, cond, not, _&&_}
 use mathlib.Core.List.{List, [], _∷_, List·Memᴰ, List·Nodup}
@@ -36,10 +36,10 @@ module _ (stage : Stage) (labels : List Label) where
 unfoldable pub shortlist : Stage → ℕ → List Label → List ℕ
 shortlist stage n labels = ascending n (λ d. cond (isListed stage labels d) (triedAt stage labels d ∷ []) [])
 
--- "at most n sets to test, proved to hold every candidate of that stage": for every n, labels and reach
+-- "at most n sets to test, proved to hold every candidate of that stage": for every n, labels and reach of n disks
 pub record ShortlistRight : Type 0 where
   pub few : (stage : Stage) (n : ℕ) (labels : List Label) → length (shortlist stage n labels) ≤ n
-  -- disks that share a set are no two candidates
+  -- disks that share a set do not make it two candidates
   pub once : (stage : Stage) (n : ℕ) (labels : List Label) → List·Nodup (shortlist stage n labels)
   pub every-candidate : (stage : Stage) (n online : ℕ) (labels : List Label) → online < 2 ^ n
       → (x : ℕ) → Candidate stage online labels x → List·Memᴰ x (shortlist stage n labels)

@@ -1,5 +1,6 @@
 -- `block_stores::copy_block` meets its contract. Assumes nothing.
 use mathlib.Core.Path.{_∙_}
+use native.Mathlib.Omega.{arith}
 use borrow.Author.Needs.{needs}
 use Rattle.budget.specs.Runs.{progress}
 use Rattle.block_stores.proofs.Copying.{in-area, loaded-once}
@@ -10,7 +11,7 @@ load-requires : tie.Need-load-requires
 load-requires c κs =
     let a = c .before .before .args in
     let pre = c .before .before .pre in
-    in-area (a .size .disks) (a .size .blocks) (a .from) (a .k) (a .area .now) (pre .0) (pre .1) (pre .3)
+    in-area (a .size .disks) (a .size .blocks) _ (a .k) (a .area .now) (pre .0) (omega arith) (pre .3)
 
 returns : tie.Need-returns
 returns c =
