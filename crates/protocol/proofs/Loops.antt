@@ -1,14 +1,14 @@
 -- What holds of loops that go up from 0, and of the lists that they build. Assumes nothing.
 use mathlib.Core.Path.{_≡_, refl, sym, ap, ap₂, _∙_}
 use mathlib.Core.Logic.{_≢_, _⊎_, inl, inr}
-use mathlib.Core.Bool.{Bool, true, false, not, cond, _&&_, _||_, or-true}
+use mathlib.Core.Bool.{Bool, true, false, cond, _&&_, _||_, or-true}
 use mathlib.Core.List.{List, [], _∷_, _++_, append-nil, append-assoc, List·Memᴰ, List·Memᴰ·head, List·Memᴰ·not-nil}
 use mathlib.Core.List.{List·Memᴰ·append-cases, List·Memᴰ·eq-of-singleton, Memᴰ·append-left, Memᴰ·append-right}
 use Prim.Native.Nat.{ℕ, zero, suc, _+_, _≤_, _<_}
 use native.Mathlib.Omega.{arith}
-use lib.Dec.{eqb, ltb}
+use lib.Dec.{ltb}
 use lib.ListN.{length, take, length-append}
-use borrow.Author.Tests.{eqb-true, eq-eqb, ltb-true, ltb-false, lt-ltb, le-ltb, not-false}
+use borrow.Author.Tests.{eqb-true, eq-eqb, ltb-true, ltb-false, lt-ltb, le-ltb}
 use Rattle.sets.specs.Sets.{has, singleton, below, size, members}
 use Rattle.sets.proofs.Tests.{Test, passes, fails, test, clash, and-parts, or-either}
 use Rattle.sets.proofs.Tests.{implied, implies, same-or-not, same-test}
@@ -134,27 +134,6 @@ has-disks-where n p d =
 
     own : p d ≡ true → here d ≡ true
     own q = has-if (p d) (singleton d) d ∙ rw (q, has-singleton d d, eq-eqb d d refl)
-
--- the members that fail p are none exactly where p holds of every one
-pub none-failing : (n s : ℕ) (p : ℕ → Bool) → eqb (disksWhere n (λ d. has s d && not (p d))) 0 ≡ every n s p
-none-failing n s p =
-    same-test (eqb failing 0) (every n s p)
-    (λ e. every-of n s p (λ d l m. not-false _ (sym (fails-at d ∙ rw (lt-ltb d n l, m))
-    ∙ rw (eqb-true failing 0 e) (has-empty d))))
-    (λ e. eq-eqb failing 0 (same-members failing 0
-    (λ d. fails-at d ∙ passed e d (test (ltb d n)) (test (has s d)) ∙ sym (has-empty d))))
-  where
-    failing : ℕ
-    failing = disksWhere n (λ d. has s d && not (p d))
-
-    fails-at : (d : ℕ) → has failing d ≡ (ltb d n && (has s d && not (p d)))
-    fails-at = has-disks-where n (λ d. has s d && not (p d))
-
-    passed : every n s p ≡ true → (d : ℕ) → Test (ltb d n) → Test (has s d)
-        → (ltb d n && (has s d && not (p d))) ≡ false
-    passed e d (fails l) m = rw l
-    passed e d (passes l) (fails m) = rw (l, m)
-    passed e d (passes l) (passes m) = rw (l, m, every-at n s p e d (ltb-true d n l) m)
 
 -- ---- what holds of each element
 

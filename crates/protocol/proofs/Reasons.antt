@@ -17,11 +17,11 @@ use Rattle.label.specs.declared.Label.{Label}
 use Rattle.protocol.specs.declared.Reason.{Reason}
 use Rattle.protocol.specs.declared.Reason.the-variants.{NoReason, Empty, OutOfReach}
 use Rattle.protocol.specs.declared.Reason.the-variants.{Disagrees, NoneProposes, IsCandidate}
-use Rattle.protocol.specs.Loops.{every, some}
+use Rattle.protocol.specs.Loops.{some}
 use Rattle.protocol.specs.States.{labelAt}
 use Rattle.protocol.specs.Naming.{Stage, first, second, third, Backs, Proposes, Candidate, backs, proposes}
 use Rattle.protocol.specs.Diagnosis.{reasonNumber, Says, unreachable, dissenters, reasonFor, ReasonRight}
-use Rattle.protocol.proofs.Loops.{or-last, some-member, some-is, some-not, has-disks-where, none-failing}
+use Rattle.protocol.proofs.Loops.{or-last, some-member, some-is, some-not, has-disks-where}
 use Rattle.protocol.proofs.Naming.{backs-if, if-backs, proposes-if}
 
 -- ---- the lowest member that fails a test
@@ -39,12 +39,6 @@ module _ (x failing : ℕ) (p : ℕ → Bool) (is : (d : ℕ) → has failing d 
   none-fails e d m = not-false _ (sym (is d ∙ rw m) ∙ rw e (has-empty d))
 
 -- ---- the reason
-
--- none disagrees where every member backs the set
-pub no-dissenters : (stage : Stage) (n : ℕ) (labels : List Label) (x : ℕ)
-    → eqb (dissenters stage n labels x) 0 ≡ every n x (λ d. backs stage (labelAt labels d) x)
-unfolding dissenters
-no-dissenters stage n labels x = none-failing n x (λ d. backs stage (labelAt labels d) x)
 
 module _ (stage : Stage) (n online : ℕ) (labels : List Label) (x : ℕ) (known : below x n ≡ true) where
   abbrev backsIt : ℕ → Bool
