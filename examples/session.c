@@ -1,5 +1,5 @@
-/* Document 01's session, then clean, a read that is cut as it moves, save, assemble, diagnose and labels: each function
-   of the header, and each field of its structs. */
+/* Document 01's session, then a swap, clean, a read that is cut as it moves, save, assemble, diagnose and labels: each
+   function of the header, and each field of its structs. */
 #include "cabinet.h"
 #include <stdio.h>
 #include <string.h>
@@ -55,6 +55,12 @@ int main(void)
     s = told(cabinet_join(s, area, sizeof area, 2, 99));
     s = told(cabinet_read(s, area, sizeof area, 0, found, sizeof found, 99));
     block(found);
+
+    /* Disk 2 dies, and a blank one joins in its place. */
+    s = told(cabinet_detach(s, 2));
+    s = told(cabinet_swap(s, area, sizeof area, 2, 99));
+    s = told(cabinet_attach(s, 2));
+    s = told(cabinet_join(s, area, sizeof area, 2, 99));
 
     s = told(cabinet_write(s, area, sizeof area, 7, sevens, sizeof sevens, 99));
     s = told(cabinet_detach(s, 0));

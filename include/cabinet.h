@@ -112,7 +112,8 @@ enum cabinet_refusal {
     CABINET_LABEL_SET = 20,         /* a set of the label names a disk that is not there, or omits its own */
     CABINET_NO_ROOM = 21,           /* the output is shorter than the label */
     CABINET_NO_SUCH_REGION = 22,    /* a dirty bit of the label names no region */
-    CABINET_NO_SUCH_STAGE = 23      /* the stage is not 1, 2 or 3 */
+    CABINET_NO_SUCH_STAGE = 23,     /* the stage is not 1, 2 or 3 */
+    CABINET_DISK_ONLINE = 24        /* the disk is online */
 };
 
 /* Why a disk's own set (its tentative one if there is one, else its committed one) is no candidate of a stage. The
@@ -146,6 +147,14 @@ struct cabinet_answer cabinet_write(struct cabinet_state state, uint8_t *area, s
 /* Makes the disk current: moves as a read does, copies all blocks to the disk, then moves to the set with the disk.
    Refuses: 1, 2, 6, 8, 11, 10, 12, 15: a current disk gives 11, online or not. */
 struct cabinet_answer cabinet_join(struct cabinet_state state, uint8_t *area, size_t area_length, size_t disk,
+                                   uint16_t budget);
+
+/* Puts a blank disk in the place of one that is not online, while the cabinet runs: its label is all zero, and so are
+   its blocks, which counts no store. If the disk is current, the cabinet first moves to the current disks that are
+   online; else it makes no store, and a budget of 0 will do. The new disk is not online: attach it, then join it. If
+   the power is lost the old disk is still in, its label and its blocks as they were.
+   Refuses: 1, 2, 6, 8, 24, 12 (only if the disk is current), 15. */
+struct cabinet_answer cabinet_swap(struct cabinet_state state, uint8_t *area, size_t area_length, size_t disk,
                                    uint16_t budget);
 
 /* Clears the dirty bits of the current disks that are online: a restart copies only dirty regions.

@@ -9,7 +9,7 @@ pub const DISKS: usize = 8;
 pub const BLOCKS: usize = 64;
 /// The bytes of a block.
 pub const BLOCK_SIZE: usize = 64;
-/// The disk that is joined, detached, attached and asked about.
+/// The disk that is joined, swapped, detached, attached and asked about.
 pub const DISK: usize = 7;
 /// The stage that is asked about.
 pub const STAGE: usize = 3;
@@ -25,6 +25,7 @@ pub enum Call {
     Read,
     Write,
     Join,
+    Swap,
     Clean,
     Restart,
     Detach,
@@ -86,6 +87,8 @@ pub fn rows() -> Vec<Row> {
         row("write to a dirty region", Call::Write, dirty(fresh())),
         row("write that first moves", Call::Write, moved),
         row("join", Call::Join, without_last()),
+        row("swap of a current disk", Call::Swap, moved),
+        row("swap of another disk", Call::Swap, spare_lost()),
         row("clean (quiet), all regions dirty", Call::Clean, dirty(fresh())),
         row("clean (quiet), none dirty", Call::Clean, fresh()),
         row("restart, none dirty", Call::Restart, stopped(fresh())),
@@ -153,6 +156,15 @@ fn without_last() -> State {
         label.committed = state.current;
     }
     state
+}
+
+/// The last disk out of reach, and all others current.
+fn spare_lost() -> State {
+    let state = without_last();
+    State {
+        reach: state.current,
+        ..state
+    }
 }
 
 /// A member with a tentative set. It is the last disk, so that nothing is found wrong before.

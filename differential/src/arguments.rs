@@ -63,7 +63,7 @@ fn number_for(random: &mut Random, call: Call, state: &State, bad: usize) -> usi
         Call::Read | Call::Write => number(random, 0..=usize::from(state.blocks.max(1)) - 1, bad),
         Call::Join => disk(random, state, state.reach & !state.current, bad),
         Call::Lose => disk(random, state, state.reach, bad),
-        Call::Return => disk(random, state, !state.reach, bad),
+        Call::Return | Call::Swap => disk(random, state, !state.reach, bad),
         Call::Diagnose => disk(random, state, state.reach, bad),
         _ => 0,
     }

@@ -13,6 +13,8 @@ pub enum Call {
     Write,
     /// Join: the state, the area, d, the supply.
     Join,
+    /// Swap: the state, the area, d, the supply.
+    Swap,
     /// Quiet: the state, the supply.
     Quiet,
     /// Restart: the state, the area, the supply.
@@ -37,11 +39,12 @@ pub enum Call {
 
 impl Call {
     /// Every call, with its name in a line.
-    pub const ALL: [(Call, &'static str); 14] = [
+    pub const ALL: [(Call, &'static str); 15] = [
         (Call::Fresh, "fresh"),
         (Call::Read, "read"),
         (Call::Write, "write"),
         (Call::Join, "join"),
+        (Call::Swap, "swap"),
         (Call::Quiet, "quiet"),
         (Call::Restart, "restart"),
         (Call::Lose, "lose"),
@@ -68,7 +71,7 @@ impl Call {
     pub fn takes_area(self) -> bool {
         matches!(
             self,
-            Call::Fresh | Call::Read | Call::Write | Call::Join | Call::Restart
+            Call::Fresh | Call::Read | Call::Write | Call::Join | Call::Swap | Call::Restart
         )
     }
 
@@ -76,7 +79,7 @@ impl Call {
     pub fn takes_supply(self) -> bool {
         matches!(
             self,
-            Call::Read | Call::Write | Call::Join | Call::Quiet | Call::Restart
+            Call::Read | Call::Write | Call::Join | Call::Swap | Call::Quiet | Call::Restart
         )
     }
 }

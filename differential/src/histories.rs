@@ -15,10 +15,11 @@ const BAD: usize = 3;
 const LONGEST: usize = 400;
 
 /// The calls with their shares of a hundred, of a running and of a stopped cabinet. An assemble follows its save.
-const MIX: [(Call, usize, usize); 11] = [
-    (Call::Read, 15, 3),
-    (Call::Write, 31, 4),
-    (Call::Join, 12, 3),
+const MIX: [(Call, usize, usize); 12] = [
+    (Call::Read, 14, 3),
+    (Call::Write, 29, 4),
+    (Call::Join, 11, 3),
+    (Call::Swap, 4, 1),
     (Call::Quiet, 7, 3),
     (Call::Restart, 3, 39),
     (Call::Lose, 12, 8),

@@ -18,11 +18,12 @@ const OFTEN: usize = 150;
 
 /// The results that each call can give. Assembling passes on the label's own refusals, but for 16: a slot has 5 bytes,
 /// and no label is longer.
-const RESULTS: [(Call, &[u8]); 14] = [
+const RESULTS: [(Call, &[u8]); 15] = [
     (Call::Fresh, &[0, 2, 4, 5]),
     (Call::Read, &[0, 1, 2, 3, 6, 9, 12, 15]),
     (Call::Write, &[0, 1, 2, 3, 6, 9, 12, 15]),
     (Call::Join, &[0, 1, 2, 6, 8, 10, 11, 12, 15]),
+    (Call::Swap, &[0, 1, 2, 6, 8, 12, 15, 24]),
     (Call::Quiet, &[0, 1, 6, 12, 15]),
     (Call::Restart, &[0, 1, 2, 7, 13, 14, 15]),
     (Call::Lose, &[0, 1, 8]),

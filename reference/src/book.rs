@@ -10,7 +10,7 @@ use crate::store::Store;
 /// "The book has a block for each k below b, zeros at first. Beside it stands a cabinet of this paper, begun as fresh
 /// gives it, that takes each call by the rules here." Both are fed only arguments, and "no answer, state or disk area
 /// of the program".
-#[derive(Clone, Debug)]
+#[derive(Clone, Debug, PartialEq, Eq)]
 pub struct Book {
     /// The book's own cabinet.
     pub cabinet: Cabinet,
@@ -42,7 +42,7 @@ impl Book {
 
     /// Feeds a call to the book, with an output like the one in the list: a read refuses one of a wrong length, and so
     /// does not move. If it is a write that counts, "then block k of the book becomes its data. The other seven calls
-    /// leave the book as it is", and so does a diagnosis, which carries out no write.
+    /// leave the book as it is", and so do a diagnosis and a swap, which carry out no write.
     pub fn take(&mut self, call: &Call, output: &mut [u8]) -> Taken {
         let before = self.cabinet.state;
         let answer = self.cabinet.take(call, output);

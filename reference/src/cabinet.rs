@@ -119,6 +119,7 @@ impl Cabinet {
             Call::Return { disk } => self.give_back(*disk),
             Call::Cut => self.cut(),
             Call::Diagnose { stage, disk } => self.diagnose(*stage, *disk),
+            Call::Swap { disk, supply } => self.swap(*disk, *supply),
         }
     }
 
@@ -275,6 +276,59 @@ impl Cabinet {
             result: told.result,
             stores: 0,
         }
+    }
+
+    /// Swap: 1, 2, 6, 8, 24, "then 12 where d is in G, then 15" (request 2.5).
+    pub fn swap(&mut self, disk: u16, supply: u16) -> Answer {
+        let beyond = disk >= self.state.disks.into();
+        let is_in = |set: DiskSet| !beyond && set.has(disk as u8);
+        let needs_power = !self.rules.makes(Mistake::SwapOfStoppedCabinet);
+        let needs_live = is_in(self.state.current()) || self.rules.makes(Mistake::SwapNeedsLiveDisk);
+        let ready = refusal::first(&[
+            (UNSOUND, self.is_unsound()),
+            (WRONG_LENGTH, self.area_misfits()),
+            (STOPPED, self.state.is_stopped() && needs_power),
+            (NO_SUCH_DISK, beyond),
+            (IN_REACH, is_in(self.state.reach)),
+            (NONE_LIVE, self.state.live().is_empty() && needs_live),
+        ]);
+        Answer::of(ready.map(|()| {
+            let answer = self.move_for_swap(disk as u8, supply);
+            self.change_disk(disk as u8, answer)
+        }))
+    }
+
+    /// "If d is in G the cabinet first moves to L, within the supply." For another d it runs on with its G. A stopped
+    /// cabinet, which only a mistake lets come here, stays so.
+    fn move_for_swap(&mut self, disk: u8, supply: u16) -> Answer {
+        if self.state.is_stopped() {
+            return Answer::DONE;
+        }
+        let list = lists::swap(self.rules, &self.state, disk);
+        let then = if lists::swap_moves(self.rules, &self.state, disk) {
+            self.state.live()
+        } else {
+            self.state.current()
+        };
+        self.carry_out(&list, supply, then)
+    }
+
+    /// "When that is done, d has an empty label, zero blocks (no counted stores), and is still out of reach until
+    /// returned. A cut during the move leaves the old disk in."
+    fn change_disk(&mut self, disk: u8, moved: Answer) -> Answer {
+        let (rules, is_done) = (self.rules, moved.result == DONE);
+        if is_done && !rules.makes(Mistake::SwapKeepsLabel) {
+            self.state.labels[disk as usize] = Label::ZERO;
+        }
+        if is_done && !rules.makes(Mistake::SwapKeepsBlocks) || rules.makes(Mistake::SwapZeroesThoughCut) {
+            self.area[self.state.disk_range(disk)].fill(0);
+        }
+        if is_done && rules.makes(Mistake::SwapComesIntoReach) {
+            self.state.reach = self.state.reach.with(disk);
+        }
+        let counted = is_done && rules.makes(Mistake::SwapCountsBlocks);
+        let stores = moved.stores + if counted { self.state.blocks.into() } else { 0 };
+        Answer { stores, ..moved }
     }
 
     /// "If the list is longer than the supply, exactly the first supply stores are made, the cabinet is stopped, and

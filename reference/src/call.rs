@@ -1,4 +1,4 @@
-//! The calls of 'The list and the book' with their arguments: the paper's eight, and request 2.2's.
+//! The calls of 'The list and the book' with their arguments: the paper's eight, and those of requests 2.2 and 2.5.
 
 /// One call. "Each with whatever numbers and with data and output of its own."
 #[derive(Clone, Debug, PartialEq, Eq)]
@@ -21,11 +21,13 @@ pub enum Call {
     Cut,
     /// Tell why disk d is not current. Its numbers are wide, for 256 and 65,536 are no stages and no disks.
     Diagnose { stage: u32, disk: u32 },
+    /// Swap disk d for a blank one.
+    Swap { disk: u16, supply: u16 },
 }
 
 impl Call {
     /// The call as a line of the cabinet program, which writes a block by its first byte. The program has no letter for
-    /// a diagnosis, and would answer this line with 99.
+    /// a diagnosis or a swap, and would answer these lines with 99.
     pub fn line(&self) -> String {
         match self {
             Call::Read { block, supply } => format!("g {block} {supply}"),
@@ -37,6 +39,7 @@ impl Call {
             Call::Return { disk } => format!("r {disk}"),
             Call::Cut => "c".to_string(),
             Call::Diagnose { stage, disk } => format!("diagnose {stage} {disk}"),
+            Call::Swap { disk, supply } => format!("swap {disk} {supply}"),
         }
     }
 }

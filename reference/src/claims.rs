@@ -13,6 +13,7 @@ use crate::sets::DiskSet;
 use crate::slots::{self, SLOT};
 use crate::state::{Power, State};
 use crate::store::{self, Store};
+use crate::swap_claims::SwapClaim;
 use std::borrow::Cow;
 use std::collections::BTreeSet;
 
@@ -69,6 +70,8 @@ pub enum Claim {
     OtherSet,
     /// Where a restart gives 13, a diagnosis says neither 'a candidate' nor that none proposes the set.
     MissingTold,
+    /// What request 2.5 says of a swap.
+    Swap(SwapClaim),
 }
 
 /// A call that was made: what was before it and what is after it.
@@ -105,23 +108,26 @@ impl Claim {
         Claim::TestAgrees,
     ];
 
-    /// The claims about each call that is made.
-    pub const OF_CALLS: [Claim; 14] = [
-        Claim::RestartedBlocks,
-        Claim::NotSeveral,
-        Claim::RestartFinds,
-        Claim::NoneUnsound,
+    /// The claims about each call that is made, whichever it is. Those that follow are about one kind each.
+    const OF_EVERY_CALL: [Claim; 2] = [Claim::NoneUnsound, Claim::RefusedUnchanged];
+
+    /// The claims about each restart that is made.
+    const OF_RESTARTS: [Claim; 3] = [Claim::RestartedBlocks, Claim::NotSeveral, Claim::RestartFinds];
+
+    /// The claims about each read that is made.
+    const OF_READS: [Claim; 5] = [
         Claim::ReadsBook,
         Claim::ReadStores,
         Claim::ReadKeepsOutput,
         Claim::ReadWithinReach,
         Claim::ReadMoves,
-        Claim::AcknowledgedCounts,
-        Claim::CutCounts,
-        Claim::WriteBound,
-        Claim::RefusedUnchanged,
-        Claim::MembersTold,
     ];
+
+    /// The claims about each write that is made.
+    const OF_WRITES: [Claim; 3] = [Claim::AcknowledgedCounts, Claim::CutCounts, Claim::WriteBound];
+
+    /// The claims about each join that is made.
+    const OF_JOINS: [Claim; 1] = [Claim::MembersTold];
 
     /// The claims about each diagnosis that is made.
     pub const OF_DIAGNOSES: [Claim; 4] = [
@@ -131,9 +137,28 @@ impl Claim {
         Claim::MissingTold,
     ];
 
-    /// All claims.
-    pub fn all() -> Vec<Claim> {
-        [&Claim::OF_CALLS[..], &Claim::OF_DIAGNOSES, &Claim::OF_STATES].concat()
+    /// The claims about each swap that is made.
+    const OF_SWAPS: [Claim; 6] = [
+        Claim::Swap(SwapClaim::Blanks),
+        Claim::Swap(SwapClaim::KeepsReach),
+        Claim::Swap(SwapClaim::MovesForMember),
+        Claim::Swap(SwapClaim::CutLeavesDisk),
+        Claim::Swap(SwapClaim::OtherNeedsNothing),
+        Claim::Swap(SwapClaim::NeedsPower),
+    ];
+
+    /// The claims about such a call.
+    pub fn of_call(call: &Call) -> Vec<Claim> {
+        let of_kind = match call {
+            Call::Read { .. } => &Claim::OF_READS[..],
+            Call::Write { .. } => &Claim::OF_WRITES,
+            Call::Join { .. } => &Claim::OF_JOINS,
+            Call::Restart { .. } => &Claim::OF_RESTARTS,
+            Call::Diagnose { .. } => &Claim::OF_DIAGNOSES,
+            Call::Swap { .. } => &Claim::OF_SWAPS,
+            Call::Quiet { .. } | Call::Lose { .. } | Call::Return { .. } | Call::Cut => &[],
+        };
+        [of_kind, &Claim::OF_EVERY_CALL].concat()
     }
 
     /// The claim in words, as these rules have it.
@@ -158,7 +183,7 @@ impl Claim {
                 let bound = write_bound(rules);
                 return format!("a write makes at most {bound} times as many stores as L has disks");
             }
-            Claim::RefusedUnchanged => "a refusal other than 15, and a diagnosis, counts no stores, keeps the state",
+            Claim::RefusedUnchanged => "a refusal, other than 15, and a diagnosis change nothing and count no stores",
             Claim::MembersTold => "a join of a current disk gives 11, in reach or not",
             Claim::SavedAssembles => "a saved state, assembled with its R, is the state after a cut",
             Claim::NamedAsDefined => "the stages name the set that the definition says",
@@ -168,13 +193,11 @@ impl Claim {
             Claim::TestAgrees => "the test of soundness gives the definition's answer",
             Claim::EarliestReason => "the reason of a diagnosis is true of the disk's own set, and no earlier one is",
             Claim::CandidateTold => "a diagnosis says 'a candidate' exactly where the own set is one of that stage",
-            Claim::OtherSet => {
-                "the set of a diagnosis is the one that a restart would find, \
-                 if it finds one and that lacks the disk, and else 0"
-            }
+            Claim::OtherSet => "a diagnosis gives the set that a restart would find, if that lacks the disk, else 0",
             Claim::MissingTold => {
                 "where a restart gives 13, a diagnosis says neither 'a candidate' nor that none proposes the set"
             }
+            Claim::Swap(claim) => claim.words(),
         };
         words.to_string()
     }
@@ -221,9 +244,10 @@ impl Claim {
             (Claim::RefusedUnchanged, _) => {
                 let may_change = !matches!(event.call, Call::Diagnose { .. });
                 let is_carried = may_change && event.answer.is_carried_out();
-                is_carried || event.answer.stores == 0 && event.after.state == event.before.state
+                is_carried || event.answer.stores == 0 && event.after == event.before
             }
             (Claim::MembersTold, Call::Join { disk, .. }) => result == ALREADY_MEMBER || !was_current(event, *disk),
+            (Claim::Swap(claim), Call::Swap { disk, supply }) => claim.holds_of(event, *disk, *supply),
             (claim, Call::Diagnose { stage, disk }) => {
                 let (rules, asked) = (event.after.rules, (*stage, *disk));
                 let holds = |told| claim.holds_of_diagnosis(rules, &event.before.state, asked, told);

@@ -1,5 +1,5 @@
-//! The papers' definitions once more, in other words than in `state`, `naming` and `diagnosis`, so that the claims
-//! about the test of soundness, about the stages and about diagnoses compare two things.
+//! The papers' definitions once more, in other words than in `state`, `lists`, `naming` and `diagnosis`, so that the
+//! claims about the test of soundness, about moves, about the stages and about diagnoses compare two things.
 
 use crate::diagnosis::Reason;
 use crate::label::Label;
@@ -36,6 +36,22 @@ pub fn is_sound(state: &State) -> bool {
         }
     };
     in_range && only_disks(state.reach) && (0..8).all(label_fits) && power_fits
+}
+
+/// The labels when so many stores of a move to L are made: "for each disk of S, ascending, store T = S; then for each
+/// disk of S, ascending, store C = S and T = 0". Each member's two stores by their places.
+pub fn labels_in_move(state: &State, made: usize) -> [Label; 8] {
+    let (mut labels, live) = (state.labels, state.live());
+    for (place, disk) in live.members().enumerate() {
+        let label = &mut labels[disk as usize];
+        if made > place {
+            label.tentative = live;
+        }
+        if made > live.size() + place {
+            (label.committed, label.tentative) = (live, DiskSet::EMPTY);
+        }
+    }
+    labels
 }
 
 /// 'Which set a restart names': of all sets X inside R, those whose first stage comes first. One of them is the set.

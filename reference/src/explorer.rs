@@ -1,4 +1,4 @@
-//! Every reachable state of a small cabinet, with the book: from fresh, under all nine calls, with the power cut
+//! Every reachable state of a small cabinet, with the book: from fresh, under all ten calls, with the power cut
 //! after every store, and every disk lost and returned. Breadth first, so the first history on which a claim fails is
 //! a shortest one.
 
@@ -10,16 +10,22 @@ use crate::mistakes::Rules;
 use crate::packing::{pack, unpack};
 use crate::program::Reply;
 use crate::refusal::SUPPLY_ENDED;
-use crate::state::{State, BLOCK};
+use crate::state::BLOCK;
 use crate::trial::Trial;
 use std::collections::HashSet;
 use std::fmt::Display;
+use std::num::NonZero;
+use std::ops::Range;
+use std::thread;
 
 /// The n and b of the cabinets that are explored, in this order.
 pub const SIZES: [(u16, u16); 6] = [(1, 1), (1, 2), (2, 1), (3, 1), (2, 2), (3, 2)];
 
 /// The output that each call is given. No block equals it, so that it shows when a read fills it.
 const GIVEN: [u8; BLOCK] = [170; BLOCK];
+
+/// The most states whose calls are made at a time, shared out among the threads.
+const BATCH: usize = 1 << 14;
 
 /// What an exploration found.
 pub struct Survey {
@@ -39,11 +45,11 @@ pub struct Failure {
     pub history: Vec<String>,
 }
 
-/// A call without its supply, with small numbers. A write's data is told by whether it differs from the book's block.
+/// A call without its supply, with small numbers. A write's data is one byte, 0 or 1, over and over.
 #[derive(Clone, Copy)]
 enum Step {
     Read { block: u8 },
-    Write { block: u8, differs: u8 },
+    Write { block: u8, byte: u8 },
     Join { disk: u8 },
     Quiet,
     Restart,
@@ -51,33 +57,52 @@ enum Step {
     Return { disk: u8 },
     Cut,
     Diagnose { stage: u32, disk: u32 },
+    Swap { disk: u8 },
 }
 
 /// A state that was visited: how it came to be.
+#[derive(Clone, Copy)]
 struct Visited {
     packed: u128,
     parent: usize,
     made: Option<(Step, u16)>,
 }
 
+/// The calls that were made in some states: how many, and in their order the states that they led to and that were not
+/// visited before. A claim that failed stands with the state in which it did, or to which the call led.
+#[derive(Default)]
+struct Made {
+    calls: usize,
+    reached: Vec<(Visited, Option<Claim>)>,
+}
+
 /// An exploration.
-struct Explorer<'a> {
+struct Explorer {
     /// The trial that it starts from.
     fresh: Trial,
-    claims: &'a [Claim],
+    /// The steps that are made in each state, each with the claims that are checked.
+    steps: Vec<(Step, Vec<Claim>)>,
+    /// The claims about states that are checked.
+    of_states: Vec<Claim>,
     seen: HashSet<u128>,
     visited: Vec<Visited>,
     transitions: usize,
 }
 
-/// Visits every reachable state of a cabinet of at most 3 disks and 2 blocks, until one of the claims fails. The book
-/// may follow other rules than the cabinet.
-pub fn explore(rules: Rules, book_rules: Rules, size: (u16, u16), claims: &[Claim]) -> Survey {
+/// Visits every reachable state of a cabinet of at most 3 disks and 2 blocks, until one of the claims fails: only this
+/// one is checked, or all are. The book may follow other rules than the cabinet.
+pub fn explore(rules: Rules, book_rules: Rules, size: (u16, u16), only: Option<Claim>) -> Survey {
     let (n, b) = size;
     assert!(n <= 3 && b <= 2, "a larger trial cannot be packed");
+    let checked = |mut claims: Vec<Claim>| {
+        claims.retain(|claim| only.is_none_or(|one| one == *claim));
+        claims
+    };
+    let with_claims = |step: Step| (step, checked(Claim::of_call(&step.call(0))));
     let mut explorer = Explorer {
         fresh: Trial::fresh(rules, book_rules, n, b).expect("n and b are in range"),
-        claims,
+        steps: steps(n as u8, b as u8).into_iter().map(with_claims).collect(),
+        of_states: checked(Claim::OF_STATES.to_vec()),
         seen: HashSet::new(),
         visited: Vec::new(),
         transitions: 0,
@@ -90,64 +115,95 @@ pub fn explore(rules: Rules, book_rules: Rules, size: (u16, u16), claims: &[Clai
     }
 }
 
-impl Explorer<'_> {
+impl Explorer {
     fn run(&mut self) -> Option<Failure> {
-        if let Some(claim) = self.visit(&self.fresh.clone(), 0, None) {
-            return Some(self.failure(claim, 0, None));
-        }
-        let State { disks, blocks, .. } = self.fresh.cabinet.state;
-        let steps = steps(disks, blocks);
+        self.visit(Visited {
+            packed: pack(&self.fresh),
+            parent: 0,
+            made: None,
+        });
         let mut next = 0;
         while next < self.visited.len() {
-            let trial = unpack(&self.fresh, self.visited[next].packed);
-            for &step in &steps {
-                if let Some(failure) = self.step_at_every_supply(next, &trial, step) {
-                    return Some(failure);
+            let end = self.visited.len().min(next + BATCH);
+            for made in self.calls_by_threads(next..end) {
+                self.transitions += made.calls;
+                for (reached, failed) in made.reached {
+                    if let Some(claim) = failed {
+                        return Some(self.failure(claim, &reached));
+                    }
+                    self.visit(reached);
                 }
             }
-            next += 1;
+            next = end;
         }
         None
     }
 
+    /// Visits a state if it is new.
+    fn visit(&mut self, reached: Visited) {
+        if self.seen.insert(reached.packed) {
+            self.visited.push(reached);
+        }
+    }
+
+    /// Makes every call in these states, each thread those in a part of them. The parts come in their order, so that
+    /// the number of threads makes no difference.
+    fn calls_by_threads(&self, states: Range<usize>) -> Vec<Made> {
+        let threads = thread::available_parallelism().map_or(1, NonZero::get);
+        let size = states.len().div_ceil(threads);
+        thread::scope(|scope| {
+            let parts = states.clone().step_by(size);
+            let make = |start| scope.spawn(move || self.calls(start..states.end.min(start + size)));
+            let running: Vec<_> = parts.map(make).collect();
+            let made = running.into_iter().map(|thread| thread.join().expect("no call panics"));
+            made.collect()
+        })
+    }
+
+    /// Checks the claims about each of these states, and makes every call in it.
+    fn calls(&self, states: Range<usize>) -> Made {
+        let mut made = Made::default();
+        for from in states {
+            let state = self.visited[from];
+            let trial = unpack(&self.fresh, state.packed);
+            if let Some(claim) = trial.failing_in_state(&self.of_states) {
+                made.reached.push((state, Some(claim)));
+            }
+            for (step, claims) in &self.steps {
+                self.step_at_every_supply(from, &trial, (*step, claims), &mut made);
+            }
+        }
+        made
+    }
+
     /// Makes a call with every supply from 0 to the length of its list, the least at which neither cabinet is cut. A
     /// larger one makes no difference.
-    fn step_at_every_supply(&mut self, from: usize, trial: &Trial, step: Step) -> Option<Failure> {
+    fn step_at_every_supply(&self, from: usize, trial: &Trial, (step, claims): (Step, &[Claim]), made: &mut Made) {
         for supply in 0.. {
-            let call = step.call(supply, trial);
-            let (after, outcome) = trial.after(&call, &GIVEN, self.claims);
-            self.transitions += 1;
-            let made = Some((step, supply));
-            let failed = outcome.failed.or_else(|| self.visit(&after, from, made));
-            if let Some(claim) = failed {
-                return Some(self.failure(claim, from, made));
+            let (after, outcome) = trial.after(&step.call(supply), &GIVEN, claims);
+            let is_new = after != *trial && !self.seen.contains(&pack(&after));
+            if is_new || outcome.failed.is_some() {
+                let reached = Visited {
+                    packed: pack(&after),
+                    parent: from,
+                    made: Some((step, supply)),
+                };
+                made.reached.push((reached, outcome.failed));
             }
+            made.calls += 1;
             let results = [outcome.answer.result, outcome.book_answer.result];
             if !results.contains(&SUPPLY_ENDED) {
                 break;
             }
         }
-        None
     }
 
-    /// Visits a state if it is new, and checks the claims about it.
-    fn visit(&mut self, trial: &Trial, parent: usize, made: Option<(Step, u16)>) -> Option<Claim> {
-        let packed = pack(trial);
-        if !self.seen.insert(packed) {
-            return None;
-        }
-        self.visited.push(Visited { packed, parent, made });
-        trial.failing_in_state(self.claims)
-    }
-
-    /// The history to a state and one more call, run once more from fresh with its own data: the claim must fail there
-    /// too.
-    fn failure(&self, claim: Claim, from: usize, last: Option<(Step, u16)>) -> Failure {
-        let mut steps: Vec<(Step, u16)> = last.into_iter().collect();
-        let mut at = from;
-        while let Some(made) = self.visited[at].made {
+    /// The history to a state, run once more from fresh: the claim must fail there too.
+    fn failure(&self, claim: Claim, reached: &Visited) -> Failure {
+        let (mut steps, mut at) = (Vec::new(), reached);
+        while let Some(made) = at.made {
             steps.push(made);
-            at = self.visited[at].parent;
+            at = &self.visited[at.parent];
         }
         let mut trial = self.fresh.clone();
         let state = &trial.cabinet.state;
@@ -155,7 +211,7 @@ impl Explorer<'_> {
         let mut history = vec![line_of(&line, Reply::new(Answer::DONE, state, 0))];
         let mut failed = trial.failing_in_state(&[claim]);
         for (step, supply) in steps.into_iter().rev() {
-            let call = step.call(supply, &trial);
+            let call = step.call(supply);
             let (after, outcome) = trial.after(&call, &GIVEN, &[claim]);
             trial = after;
             failed = outcome.failed.or_else(|| trial.failing_in_state(&[claim]));
@@ -177,15 +233,15 @@ fn line_of(line: &str, reply: impl Display) -> String {
 
 impl Step {
     /// The call of this step.
-    fn call(self, supply: u16, trial: &Trial) -> Call {
+    fn call(self, supply: u16) -> Call {
         match self {
             Step::Read { block } => Call::Read {
                 block: block.into(),
                 supply,
             },
-            Step::Write { block, differs } => Call::Write {
+            Step::Write { block, byte } => Call::Write {
                 block: block.into(),
-                data: written(trial, block, differs),
+                data: vec![byte; BLOCK],
                 supply,
             },
             Step::Join { disk } => Call::Join {
@@ -198,15 +254,12 @@ impl Step {
             Step::Return { disk } => Call::Return { disk: disk.into() },
             Step::Cut => Call::Cut,
             Step::Diagnose { stage, disk } => Call::Diagnose { stage, disk },
+            Step::Swap { disk } => Call::Swap {
+                disk: disk.into(),
+                supply,
+            },
         }
     }
-}
-
-/// A block of zeros or of ones that differs from the book's block or not. There is none for a block that does not
-/// exist: any will do.
-fn written(trial: &Trial, block: u8, differs: u8) -> Vec<u8> {
-    let book = trial.book.blocks.get(usize::from(block) * BLOCK);
-    vec![book.unwrap_or(&0) ^ differs; BLOCK]
 }
 
 /// The steps on n disks of b blocks: every block, disk and stage that exists, and one that does not. The plainest come
@@ -218,12 +271,13 @@ fn steps(n: u8, b: u8) -> Vec<Step> {
         steps.push(Step::Return { disk });
     }
     for block in 0..=b {
-        steps.push(Step::Write { block, differs: 1 });
-        steps.push(Step::Write { block, differs: 0 });
+        steps.push(Step::Write { block, byte: 1 });
+        steps.push(Step::Write { block, byte: 0 });
         steps.push(Step::Read { block });
     }
     for disk in 0..=n {
         steps.push(Step::Join { disk });
+        steps.push(Step::Swap { disk });
     }
     steps.extend([Step::Quiet, Step::Restart]);
     let none = [(1, n.into()), (4, 0)];

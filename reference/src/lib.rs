@@ -1,5 +1,5 @@
 //! An independent implementation of document 01, *The cohort-set disk cabinet*, and of document 02's requests 2.1
-//! to 2.4.
+//! to 2.5.
 //!
 //! It is written from the papers alone and shares no code, table or layout with the proved product. It is meant to be
 //! read beside the paper: each rule stands once, at a place named in the paper's terms, and the comments give the
@@ -35,4 +35,5 @@ pub mod small_states;
 pub mod sound_states;
 pub mod state;
 pub mod store;
+pub mod swap_claims;
 pub mod trial;

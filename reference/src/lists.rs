@@ -82,6 +82,24 @@ pub fn join<'a>(rules: Rules, state: &State, disk: u8) -> Vec<Store<'a>> {
     }
 }
 
+/// "If d is in G the cabinet first moves to L" (request 2.5). The new disk's blocks are "no counted stores".
+pub fn swap<'a>(rules: Rules, state: &State, disk: u8) -> Vec<Store<'a>> {
+    if swap_moves(rules, state, disk) {
+        move_to_live(state)
+    } else {
+        Vec::new()
+    }
+}
+
+/// Whether a swap of this disk, which is out of reach, moves to L: "if d is in G", whatever else of G may be lost.
+pub fn swap_moves(rules: Rules, state: &State, disk: u8) -> bool {
+    if rules.makes(Mistake::SwapMovesAlways) {
+        !state.live().is_empty()
+    } else {
+        state.current().has(disk) && !rules.makes(Mistake::SwapStays)
+    }
+}
+
 /// "Quiet: for each region ascending, clear the bit on each disk of L, ascending, where it stands."
 pub fn quiet<'a>(state: &State) -> Vec<Store<'a>> {
     let mut list = Vec::new();

@@ -81,6 +81,24 @@ pub enum Mistake {
     StageTwoWithoutProposal,
     /// A commit leaves the tentative set on the disk.
     StaleTentative,
+    /// A done swap leaves the new disk in reach.
+    SwapComesIntoReach,
+    /// A done swap counts a store for each block that it zeroed.
+    SwapCountsBlocks,
+    /// A done swap leaves the disk's blocks as they were.
+    SwapKeepsBlocks,
+    /// A done swap leaves the disk's label as it was.
+    SwapKeepsLabel,
+    /// A swap moves to L, if that is not empty and differs from G, for a disk outside G too.
+    SwapMovesAlways,
+    /// A swap is refused with 12 where L is empty, for a disk outside G too.
+    SwapNeedsLiveDisk,
+    /// A swap of a stopped cabinet is done: the cabinet stays stopped, with a blank disk in the bay.
+    SwapOfStoppedCabinet,
+    /// A swap never moves: G stays as it was, the blank disk in it.
+    SwapStays,
+    /// A swap that is cut has zeroed the disk's blocks all the same.
+    SwapZeroesThoughCut,
     /// The claimed bound of a write is 3 stores a disk.
     WriteBoundThree,
     /// A write stores its block on no disk.
@@ -89,7 +107,7 @@ pub enum Mistake {
 
 impl Mistake {
     /// Every mistake with its name.
-    pub const ALL: [(Mistake, &'static str); 40] = [
+    pub const ALL: [(Mistake, &'static str); 49] = [
         (Mistake::AssembleOneSlot, "assemble_one_slot"),
         (Mistake::BlocksBeforeBits, "blocks_before_bits"),
         (Mistake::BookCountsAtLastDisk, "book_counts_at_last_disk"),
@@ -128,6 +146,15 @@ impl Mistake {
         (Mistake::SoundIgnoresTentative, "sound_ignores_tentative"),
         (Mistake::StageTwoWithoutProposal, "stage_two_without_proposal"),
         (Mistake::StaleTentative, "stale_tentative"),
+        (Mistake::SwapComesIntoReach, "swap_comes_into_reach"),
+        (Mistake::SwapCountsBlocks, "swap_counts_blocks"),
+        (Mistake::SwapKeepsBlocks, "swap_keeps_blocks"),
+        (Mistake::SwapKeepsLabel, "swap_keeps_label"),
+        (Mistake::SwapMovesAlways, "swap_moves_always"),
+        (Mistake::SwapNeedsLiveDisk, "swap_needs_live_disk"),
+        (Mistake::SwapOfStoppedCabinet, "swap_of_stopped_cabinet"),
+        (Mistake::SwapStays, "swap_stays"),
+        (Mistake::SwapZeroesThoughCut, "swap_zeroes_though_cut"),
         (Mistake::WriteBoundThree, "write_bound_three"),
         (Mistake::WriteStoresNothing, "write_stores_nothing"),
     ];

@@ -1,10 +1,8 @@
 //! A trial of a small cabinet in one number, for the explorer's set of visited states.
 //!
-//! No rule looks at data: blocks are only stored, copied and compared with the book. So the explorer writes blocks of
-//! zeros and of ones only, and two states are one if zeros and ones change places in all blocks and in the book at
-//! once. Each block is kept as its XOR with the book's block 0, and so are the book's other blocks. (An XOR with the
-//! book's own block for each k would lose more states, but also the difference between blocks: a read of another block
-//! would not be seen.)
+//! No rule looks at data: blocks are only stored, copied, zeroed and compared with the book. So the explorer writes
+//! blocks of zeros and of ones only, and each is kept as one bit. (Zeros and ones cannot change places: a swap's new
+//! disk has zeros, be the book's block zeros or not.)
 
 use crate::sets::DiskSet;
 use crate::state::{Power, State, BLOCK};
@@ -30,12 +28,6 @@ impl Bits {
 /// cabinet takes 34 bits: R, the power condition, the labels and the blocks.
 pub fn pack(trial: &Trial) -> u128 {
     let mut bits = Bits(0);
-    let flip = trial.book.blocks[0];
-    let put_blocks = |bits: &mut Bits, blocks: &[u8]| {
-        for block in blocks.chunks(BLOCK) {
-            bits.put(1, block[0] ^ flip);
-        }
-    };
     for cabinet in [&trial.cabinet, &trial.book.cabinet] {
         put_state(&mut bits, &cabinet.state);
         put_blocks(&mut bits, &cabinet.area);
@@ -44,7 +36,7 @@ pub fn pack(trial: &Trial) -> u128 {
     bits.0
 }
 
-/// The trial that packs to this number and whose book has zeros in block 0, begun from a fresh one.
+/// The trial that packs to this number, begun from a fresh one.
 pub fn unpack(fresh: &Trial, packed: u128) -> Trial {
     let mut trial = fresh.clone();
     let mut bits = Bits(packed);
@@ -54,6 +46,12 @@ pub fn unpack(fresh: &Trial, packed: u128) -> Trial {
         take_state(&mut bits, &mut cabinet.state);
     }
     trial
+}
+
+fn put_blocks(bits: &mut Bits, blocks: &[u8]) {
+    for block in blocks.chunks(BLOCK) {
+        bits.put(1, block[0]);
+    }
 }
 
 fn take_blocks(bits: &mut Bits, blocks: &mut [u8]) {

@@ -48,6 +48,8 @@ pub const OUTPUT_SHORT: u8 = 21;
 pub const NO_SUCH_REGION: u8 = 22;
 /// The stage is not 1, 2 or 3.
 pub const NO_SUCH_STAGE: u8 = 23;
+/// The disk to swap is in reach.
+pub const IN_REACH: u8 = 24;
 
 /// "Each refusal falls in the order of its paragraph, on its condition only": the first one whose condition holds.
 pub fn first(refusals: &[(u8, bool)]) -> Result<(), u8> {

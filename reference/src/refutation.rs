@@ -7,6 +7,7 @@ use crate::mistakes::{Mistake, Rules};
 use crate::small_states;
 use crate::sound_states;
 use crate::state::{Power, State};
+use crate::swap_claims::SwapClaim;
 
 /// Why a mistake is one.
 pub struct Refutation {
@@ -20,16 +21,20 @@ pub struct Refutation {
 /// no restart gives 14.
 pub const IN_NO_HISTORY: [Mistake; 2] = [Mistake::OtherSetOfSeveral, Mistake::SoundIgnoresTentative];
 
-/// The claim that refuses a mistake.
+/// The claim that refuses a mistake: the first one of demand 3 unless another stands here. A test shows that it does.
 pub fn claim_against(mistake: Mistake) -> Claim {
     match mistake {
         Mistake::AssembleOneSlot => Claim::SavedAssembles,
-        Mistake::CutRunsOn | Mistake::FormatWithTentative | Mistake::ReadKeepsSet | Mistake::StaleTentative => {
-            Claim::Sound
-        }
-        Mistake::EarlyCommit | Mistake::FallbackToCommitted | Mistake::Majority | Mistake::RestartRefusesAlways => {
-            Claim::RestartFinds
-        }
+        Mistake::CutRunsOn
+        | Mistake::FormatWithTentative
+        | Mistake::ReadKeepsSet
+        | Mistake::StaleTentative
+        | Mistake::SwapStays => Claim::Sound,
+        Mistake::EarlyCommit
+        | Mistake::FallbackToCommitted
+        | Mistake::Majority
+        | Mistake::RestartRefusesAlways
+        | Mistake::SwapOfStoppedCabinet => Claim::RestartFinds,
         Mistake::DiagnosisWithoutProposal => Claim::CandidateTold,
         Mistake::DisagreementBeforeReach | Mistake::LowestMemberTold | Mistake::OwnSetByStage => Claim::EarliestReason,
         Mistake::FinderMissesCommitted => Claim::FinderAgrees,
@@ -44,19 +49,14 @@ pub fn claim_against(mistake: Mistake) -> Claim {
         Mistake::ReadStays => Claim::ReadMoves,
         Mistake::SoundIgnoresTentative => Claim::TestAgrees,
         Mistake::StageTwoWithoutProposal => Claim::NamedAsDefined,
+        Mistake::SwapComesIntoReach => Claim::Swap(SwapClaim::KeepsReach),
+        Mistake::SwapCountsBlocks | Mistake::SwapMovesAlways => Claim::Swap(SwapClaim::MovesForMember),
+        Mistake::SwapKeepsBlocks | Mistake::SwapKeepsLabel => Claim::Swap(SwapClaim::Blanks),
+        Mistake::SwapNeedsLiveDisk => Claim::Swap(SwapClaim::OtherNeedsNothing),
         Mistake::CutWriteCountsEarly => Claim::CutCounts,
         Mistake::WriteBoundThree => Claim::WriteBound,
         Mistake::WriteStoresNothing => Claim::AcknowledgedCounts,
-        Mistake::BlocksBeforeBits
-        | Mistake::BookCountsAtLastDisk
-        | Mistake::BookCountsEveryWrite
-        | Mistake::ClearsBeforeCopies
-        | Mistake::CopiesFromOtherMember
-        | Mistake::CutMakesWholeList
-        | Mistake::JoinBeforeCopies
-        | Mistake::LargerSet
-        | Mistake::RestartCopiesNothing
-        | Mistake::RestartNamesAll => Claim::RestartedBlocks,
+        _ => Claim::RestartedBlocks,
     }
 }
 
@@ -74,7 +74,7 @@ pub fn refute(mistake: Mistake) -> Option<Refutation> {
 
 /// A shortest history on which the claim fails, when the cabinet and the book follow these rules.
 pub fn refuting_history(rules: Rules, book_rules: Rules, claim: Claim) -> Option<Refutation> {
-    let failure = |size| explore(rules, book_rules, size, &[claim]).failure;
+    let failure = |size| explore(rules, book_rules, size, Some(claim)).failure;
     let found = SIZES.into_iter().find_map(failure)?;
     Some(Refutation {
         claim: found.claim,

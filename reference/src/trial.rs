@@ -8,7 +8,7 @@ use crate::diagnosis::{diagnose, Diagnosis};
 use crate::mistakes::Rules;
 
 /// A cabinet and the book, both begun by one fresh call and fed the same calls.
-#[derive(Clone, Debug)]
+#[derive(Clone, Debug, PartialEq, Eq)]
 pub struct Trial {
     /// The cabinet that is tried.
     pub cabinet: Cabinet,
@@ -71,6 +71,21 @@ impl Trial {
             failed,
         };
         (after, outcome)
+    }
+
+    /// The trial after these calls, one after another, each given this output, and the answer of the last one. All
+    /// claims are checked: the error is the first that fails, and its call.
+    pub fn after_all(&self, calls: &[Call], given: &[u8]) -> Result<(Trial, Answer), (Claim, Call)> {
+        let (mut trial, mut answer) = (self.clone(), Answer::DONE);
+        for call in calls {
+            let (after, outcome) = trial.after(call, given, &Claim::of_call(call));
+            let failed = outcome.failed.or_else(|| after.failing_in_state(&Claim::OF_STATES));
+            if let Some(claim) = failed {
+                return Err((claim, call.clone()));
+            }
+            (trial, answer) = (after, outcome.answer);
+        }
+        Ok((trial, answer))
     }
 
     /// The first of these claims about states that fails in the state as it now is.

@@ -75,7 +75,7 @@ fn the_last_line_of_the_corpus_lacks_its_line_feed() {
 }
 
 /// The mistakes that change no answer of the cabinet program on any input: they are about other things.
-const UNSEEN_BY_THE_PROGRAM: [Mistake; 17] = [
+const UNSEEN_BY_THE_PROGRAM: [Mistake; 26] = [
     Mistake::AssembleOneSlot,
     Mistake::BookCountsAtLastDisk,
     Mistake::BookCountsEveryWrite,
@@ -92,6 +92,15 @@ const UNSEEN_BY_THE_PROGRAM: [Mistake; 17] = [
     Mistake::ReadFillsThenCut,
     Mistake::ReadFromLostDisk,
     Mistake::SoundIgnoresTentative,
+    Mistake::SwapComesIntoReach,
+    Mistake::SwapCountsBlocks,
+    Mistake::SwapKeepsBlocks,
+    Mistake::SwapKeepsLabel,
+    Mistake::SwapMovesAlways,
+    Mistake::SwapNeedsLiveDisk,
+    Mistake::SwapOfStoppedCabinet,
+    Mistake::SwapStays,
+    Mistake::SwapZeroesThoughCut,
     Mistake::WriteBoundThree,
 ];
 

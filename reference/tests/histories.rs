@@ -27,6 +27,16 @@ fn number(random: &mut Random, bound: u8) -> u16 {
     }
 }
 
+/// A disk to swap, most often one that can, and rather one in G.
+fn lost(random: &mut Random, state: &State) -> u16 {
+    let (current, others): (Vec<u8>, Vec<u8>) = state.lost().members().partition(|d| state.current().has(*d));
+    let choices = if current.is_empty() { others } else { current };
+    match choices[..] {
+        [_, ..] if random.percent(80) => random.pick(&choices).into(),
+        _ => number(random, state.disks),
+    }
+}
+
 /// A disk to join, most often one that can.
 fn apart(random: &mut Random, state: &State) -> u16 {
     let joins = state.reach.minus(state.current()).lowest();
@@ -57,16 +67,21 @@ fn data(random: &mut Random) -> Vec<u8> {
     (0..length).map(|_| random.byte()).collect()
 }
 
-fn random_call(random: &mut Random, state: &State) -> Call {
-    let kind = match (random.below(100), state.is_stopped()) {
+/// Which of the ten calls: more often one that gets the cabinet on.
+fn kind(random: &mut Random, state: &State) -> usize {
+    match (random.below(100), state.is_stopped()) {
         (0..=34, true) => 4,
         (0..=24, false) if !state.current().inside(state.reach) => 0,
+        (25..=34, false) if !state.current().inside(state.reach) => 9,
         (0..=34, false) => 1,
         (35..=49, _) => 6,
         (50..=59, _) => 2,
-        (other, _) => other % 9,
-    };
-    let supply = supply(random, state);
+        (other, _) => other % 10,
+    }
+}
+
+fn random_call(random: &mut Random, state: &State) -> Call {
+    let (kind, supply) = (kind(random, state), supply(random, state));
     match kind {
         0 => Call::Read {
             block: number(random, state.blocks),
@@ -90,10 +105,17 @@ fn random_call(random: &mut Random, state: &State) -> Call {
             disk: number(random, state.disks),
         },
         7 => Call::Cut,
-        _ => Call::Diagnose {
+        8 => Call::Diagnose {
             stage: random.below(5) as u32,
             disk: number(random, state.disks).into(),
         },
+        _ => {
+            let of_a_move = random.between(0, 2 * u16::from(state.disks));
+            Call::Swap {
+                disk: lost(random, state),
+                supply: random.pick(&[supply, of_a_move]),
+            }
+        }
     }
 }
 
@@ -104,10 +126,10 @@ struct Tally {
     finished: usize,
     /// Those of more than one disk, with all n in reach.
     finished_with_all: usize,
-    /// Reads, writes, joins and restarts that were cut.
-    cut: [usize; 4],
-    /// Reads that moved, and writes, joins and diagnoses, that were done.
-    done: [usize; 4],
+    /// Reads, writes, joins, restarts and swaps that were cut.
+    cut: [usize; 5],
+    /// Reads that moved, writes, joins, diagnoses, swaps that moved and swaps that did not, that were done.
+    done: [usize; 6],
 }
 
 impl Tally {
@@ -122,10 +144,12 @@ impl Tally {
             (Call::Write { .. }, 15) => self.cut[1] += 1,
             (Call::Join { .. }, 15) => self.cut[2] += 1,
             (Call::Restart { .. }, 15) => self.cut[3] += 1,
+            (Call::Swap { .. }, 15) => self.cut[4] += 1,
             (Call::Read { .. }, 0) => self.done[0] += usize::from(answer.stores > 0),
             (Call::Write { .. }, 0) => self.done[1] += 1,
             (Call::Join { .. }, 0) => self.done[2] += 1,
             (Call::Diagnose { .. }, 0) => self.done[3] += 1,
+            (Call::Swap { .. }, 0) => self.done[if answer.stores > 0 { 4 } else { 5 }] += 1,
             _ => {}
         }
     }
@@ -141,12 +165,11 @@ impl Tally {
 fn history(random: &mut Random, n: u16, b: u16, tally: &mut Tally) {
     let mut trial = Trial::fresh(Rules::PAPER, Rules::PAPER, n, b).expect("n and b are in range");
     let mut lines = vec![format!("f {n} {b}")];
-    let claims = [&Claim::OF_CALLS[..], &Claim::OF_DIAGNOSES].concat();
     for _ in 0..CALLS {
         let call = random_call(random, &trial.cabinet.state);
         lines.push(call.line());
         let length = if random.percent(95) { 64 } else { random.below(129) };
-        let (after, outcome) = trial.after(&call, &vec![170; length], &claims);
+        let (after, outcome) = trial.after(&call, &vec![170; length], &Claim::of_call(&call));
         trial = after;
         tally.count(&call, outcome.answer, &trial.cabinet.state);
         let failed = outcome.failed.or_else(|| trial.failing_in_state(&Claim::OF_STATES));

@@ -15,10 +15,10 @@ use std::collections::BTreeSet;
 const CALLS: usize = 400_000;
 /// The states in which every stage and disk is asked for.
 const ASKED: usize = 20_000;
-/// The states in which a block is read at every supply.
-const READ: usize = 20_000;
+/// The states in which a block is read at every supply, and those in which a disk is swapped.
+const MOVED: usize = 20_000;
 /// The numbers of the calls, and the results that each can give.
-const RESULTS: [&[u8]; 14] = [
+const RESULTS: [&[u8]; 15] = [
     &[0, 1, 2, 3, 6, 9, 12, 15],
     &[0, 1, 2, 3, 6, 9, 12, 15],
     &[0, 1, 2, 6, 8, 10, 11, 12, 15],
@@ -28,17 +28,18 @@ const RESULTS: [&[u8]; 14] = [
     &[0, 1, 8],
     &[0, 1],
     &[0, 1, 7, 8, 23],
+    &[0, 1, 2, 6, 8, 12, 15, 24],
     &[0, 2, 4, 5],
     &[0, 1, 2],
     &[0, 2, 4, 5, 8, 17, 18, 19, 20, 22],
     &[0, 16, 17, 18, 19, 20],
     &[0, 4, 8, 20, 21],
 ];
-const FRESH: usize = 9;
-const SAVE: usize = 10;
-const ASSEMBLE: usize = 11;
-const READ_LABEL: usize = 12;
-const WRITE_LABEL: usize = 13;
+const FRESH: usize = 10;
+const SAVE: usize = 11;
+const ASSEMBLE: usize = 12;
+const READ_LABEL: usize = 13;
+const WRITE_LABEL: usize = 14;
 
 #[test]
 fn plain_calls_give_what_the_reference_gives() {
@@ -94,18 +95,41 @@ fn compare(random: &mut Random, state: State, area: &[u8], call: &Call, output: 
 fn plain_reads_give_what_the_reference_gives_at_every_supply() {
     let mut random = Random::new(3);
     let mut seen = BTreeSet::new();
-    for _ in 0..READ {
-        let state = any_state(&mut random);
-        let (area, output) = any_buffers(&mut random, &state);
+    for _ in 0..MOVED {
         let block = any_number(&mut random);
-        for supply in 0..=17 {
-            let answer = compare(&mut random, state, &area, &Call::Read { block, supply }, &output);
-            seen.insert((answer.result, answer.stores));
-        }
+        seen.extend(at_every_supply(&mut random, |supply| Call::Read { block, supply }));
     }
-    let refused = [1, 2, 3, 6, 9, 12].map(|result| (result, 0));
+    assert_eq!(seen, results_of_moves(&[1, 2, 3, 6, 9, 12]));
+}
+
+/// A swap has the stores of such a move, or none.
+#[test]
+fn plain_swaps_give_what_the_reference_gives_at_every_supply() {
+    let mut random = Random::new(4);
+    let mut seen = BTreeSet::new();
+    for _ in 0..MOVED {
+        let disk = any_number(&mut random);
+        seen.extend(at_every_supply(&mut random, |supply| Call::Swap { disk, supply }));
+    }
+    assert_eq!(seen, results_of_moves(&[1, 2, 6, 8, 12, 24]));
+}
+
+/// The result and the stores of a call in a random state at every supply that a move can need, and more.
+fn at_every_supply(random: &mut Random, call: impl Fn(u16) -> Call) -> Vec<(u8, u16)> {
+    let state = any_state(random);
+    let (area, output) = any_buffers(random, &state);
+    let made = |supply| {
+        let answer = compare(random, state, &area, &call(supply), &output);
+        (answer.result, answer.stores)
+    };
+    (0..=17).map(made).collect()
+}
+
+/// Every result and number of stores of a call that may move to L, done, cut or refused with these numbers.
+fn results_of_moves(refusals: &[u8]) -> BTreeSet<(u8, u16)> {
+    let refused = refusals.iter().map(|&result| (result, 0));
     let (done, cut) = ((0..=7).map(|size| (0, 2 * size)), (0..14).map(|made| (15, made)));
-    assert_eq!(seen, done.chain(cut).chain(refused).collect());
+    done.chain(cut).chain(refused).collect()
 }
 
 /// Any call of this kind.
@@ -124,10 +148,11 @@ fn any_call(random: &mut Random, kind: usize) -> Call {
         5 => Call::Lose { disk: number },
         6 => Call::Return { disk: number },
         7 => Call::Cut,
-        _ => Call::Diagnose {
+        8 => Call::Diagnose {
             stage: random.below(5) as u32,
             disk: number.into(),
         },
+        _ => Call::Swap { disk: number, supply },
     }
 }
 
@@ -151,6 +176,7 @@ fn make(random: &mut Random, state: State, area: &mut [u8], call: &Call, output:
             stores: 0,
             state,
         },
+        Call::Swap { disk, supply } => plain::swap(state, area, wide(random, disk), supply),
     }
 }
 

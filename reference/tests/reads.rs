@@ -2,10 +2,8 @@
 
 use reference::cabinet::{Answer, Cabinet};
 use reference::call::Call;
-use reference::claims::Claim;
 use reference::definitions;
 use reference::driver;
-use reference::label::Label;
 use reference::mistakes::{Mistake, Rules};
 use reference::program::{parse, Command};
 use reference::sets::DiskSet;
@@ -69,22 +67,6 @@ fn length(state: &State) -> usize {
     }
 }
 
-/// The labels when so many stores of the move to L are made: "for each disk of S, ascending, store T = S; then for each
-/// disk of S, ascending, store C = S and T = 0".
-fn labels_after(state: &State, live: DiskSet, made: usize) -> [Label; 8] {
-    let mut labels = state.labels;
-    for (place, disk) in live.members().enumerate() {
-        let label = &mut labels[disk as usize];
-        if made > place {
-            label.tentative = live;
-        }
-        if made > live.size() + place {
-            (label.committed, label.tentative) = (live, DiskSet::EMPTY);
-        }
-    }
-    labels
-}
-
 /// Checks a read of a block with an L that is not empty: it makes the first stores of its list, and "leaves the output
 /// buffer unchanged" if it is cut.
 fn check(before: &Cabinet, block: u8, supply: u16) {
@@ -98,7 +80,7 @@ fn check(before: &Cabinet, block: u8, supply: u16) {
     };
     let state = State {
         power,
-        labels: labels_after(&before.state, live, stores),
+        labels: definitions::labels_in_move(&before.state, stores),
         ..before.state
     };
     let expected = (Answer { result, stores }, state, before.area.clone(), output);
@@ -230,14 +212,8 @@ fn refusals_fall_in_their_order_and_only_reads_after_a_loss_change() {
 
 /// The trial after these calls, of which every claim holds, and the result of the last one.
 fn after(trial: &Trial, calls: &[Call]) -> (Trial, u8) {
-    let (mut trial, mut result) = (trial.clone(), 0);
-    for call in calls {
-        let (after, outcome) = trial.after(call, &given(64), &Claim::all());
-        let failed = outcome.failed.or_else(|| after.failing_in_state(&Claim::OF_STATES));
-        assert_eq!(failed, None, "{call:?}");
-        (trial, result) = (after, outcome.answer.result);
-    }
-    (trial, result)
+    let (trial, answer) = trial.after_all(calls, &given(64)).expect("all claims hold");
+    (trial, answer.result)
 }
 
 /// The cut read, then a restart, with the lost disks still away or back. With all back it must find a set; then the

@@ -36,6 +36,7 @@ unsafe extern "C" {
         budget: u16,
     ) -> Answer;
     fn cabinet_join(state: State, area: *mut u8, area_length: usize, disk: usize, budget: u16) -> Answer;
+    fn cabinet_swap(state: State, area: *mut u8, area_length: usize, disk: usize, budget: u16) -> Answer;
     safe fn cabinet_clean(state: State, budget: u16) -> Answer;
     fn cabinet_restart(state: State, area: *mut u8, area_length: usize, budget: u16) -> Answer;
     safe fn cabinet_detach(state: State, disk: usize) -> Answer;
@@ -99,6 +100,31 @@ impl State {
     pub fn join(self, area: &mut [u8], disk: usize, budget: u16) -> Answer {
         // SAFETY: as the module says.
         unsafe { cabinet_join(self, area.as_mut_ptr(), area.len(), disk, budget) }
+    }
+
+    /// Puts a blank disk in the place of one that is out of reach, while the cabinet runs: its label is all zero, and
+    /// so are its blocks, which counts no store. If the disk is current, the cabinet first moves to the current disks
+    /// in reach; if not, there is no store to make, and a budget of 0 will do. The new disk is out of reach:
+    /// [attach](State::attach) it, then [join](State::join) it.
+    ///
+    /// ```
+    /// # use cabinet::{area_length, Refusal, State, BLOCK_SIZE};
+    /// let mut area = vec![0; area_length(3, 8).expect("3 disks of 8 blocks")];
+    /// let state = State::format(3, 8, &mut area).state;
+    /// let state = state.write(&mut area, 0, &[7; BLOCK_SIZE], 99).state;
+    /// // Disk 2 dies. A blank one is put in, pushed home, and gets all blocks.
+    /// let swapped = state.detach(2).state.swap(&mut area, 2, 99);
+    /// assert_eq!((swapped.outcome(), swapped.stores, swapped.state.current), (Ok(()), 4, 0b011));
+    /// let joined = swapped.state.attach(2).state.join(&mut area, 2, 99);
+    /// assert_eq!((joined.outcome(), joined.state.current), (Ok(()), 0b111));
+    /// ```
+    ///
+    /// Refusals: 1 not sound, 2 the area's length, 6 stopped, 8 no such disk, 24 in reach, 12 the disk is current and
+    /// no current disk is in reach, 15 the power lost, with the old disk still in.
+    #[inline]
+    pub fn swap(self, area: &mut [u8], disk: usize, budget: u16) -> Answer {
+        // SAFETY: as the module says.
+        unsafe { cabinet_swap(self, area.as_mut_ptr(), area.len(), disk, budget) }
     }
 
     /// Clears the dirty bits of the current disks in reach (the paper's quiet), so that a restart need not copy.

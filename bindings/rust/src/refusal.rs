@@ -65,6 +65,7 @@ refusals! {
     21 NoRoom "the output is shorter than the label"
     22 NoSuchRegion "a dirty bit of the label names no region"
     23 NoSuchStage "the stage is not 1, 2 or 3"
+    24 DiskOnline "the disk is in reach"
 }
 
 /// The outcome of a result's number, of which 0 is "a done call".
@@ -99,7 +100,7 @@ mod tests {
     fn the_cases_are_the_papers() {
         let is_known = |&number: &u8| !matches!(Refusal::of(number), Refusal::Unknown(_));
         let known: Vec<u8> = (0..=255).filter(is_known).collect();
-        let papers: Vec<u8> = (1..=23).collect();
+        let papers: Vec<u8> = (1..=24).collect();
         assert_eq!(known, papers);
     }
 

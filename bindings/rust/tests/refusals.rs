@@ -138,6 +138,20 @@ fn join_refuses() {
 }
 
 #[test]
+fn swap_refuses() {
+    let swap: Call = |state, area, _| state.swap(area, 0, 0);
+    let beyond: Call = |state, area, _| state.swap(area, 256, 0);
+    keeps_all(Unsound, beyond, unsound(), (0, 0));
+    keeps_all(BufferLength, beyond, stopped(), (AREA - 64, 0));
+    keeps_all(Stopped, beyond, stopped(), (AREA, 0));
+    keeps_all(NoSuchDisk, beyond, running(), (AREA, 0));
+    keeps_all(DiskOnline, swap, running(), (AREA, 0));
+    keeps_all(NoneLive, swap, reaching(0, running()), (AREA, 0));
+    let lost = |state| reaching(2, state);
+    is_refused(PowerLost, swap, lost(running()), lost(stopped()), (AREA, 0));
+}
+
+#[test]
 fn clean_refuses() {
     let clean: Call = |state, _, _| state.clean(0);
     let dirty = |mut state: State| {

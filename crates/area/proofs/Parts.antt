@@ -1,14 +1,14 @@
 -- Parts of the area. Assumes nothing.
 use mathlib.Core.Path.{_≡_, sym, ap, _∙_}
 use mathlib.Core.List.{List, _++_, append-assoc, append-nil}
-use Prim.Native.Nat.{ℕ, _+_, _*_, _-_, _≤_}
-use native.Mathlib.Nat.{zero-add, add-assoc}
+use Prim.Native.Nat.{ℕ, _+_, _*_, _-_, _≤_, _<_}
+use native.Mathlib.Nat.{zero-add, add-assoc, mul-le-mul-right}
 use native.Mathlib.Omega.{arith}
-use lib.ListN.{length, take, drop, length-take, length-drop, take-append-drop}
+use lib.ListN.{length, take, drop, replicate, length-take, length-drop, length-replicate, take-append-drop}
 use lib.Seq.{take-length, drop-length, drop-append-le, take-append-le, take-add, drop-drop, take-take}
 use borrow.Rule.Slice.PartMut.{midOf, putMid}
 use Rattle.buffers.specs.Buffers.{splice}
-use Rattle.protocol.specs.Geometry.{blockSize, place, block, withBlock}
+use Rattle.protocol.specs.Geometry.{mostDisks, mostBlocks, blockSize, areaSize, place, block, withBlock, withZeroDisk}
 use Rattle.area.specs.Parts.{InArea}
 
 -- ---- n bytes from a on, as a part of the whole
@@ -45,10 +45,9 @@ module _ (whole : List ℕ) (a n : ℕ) (fits : a + n ≤ length whole) where
 pub alone-loaded : (part : List ℕ) → length part ≡ blockSize → take blockSize (drop (0 * blockSize) part) ≡ part
 alone-loaded part full = ap (λ n. take n part) (sym full) ∙ take-length part
 
-pub alone-stored : (part bytes : List ℕ) → length part ≡ blockSize → length bytes ≡ blockSize
-    → splice (0 * blockSize) bytes part ≡ bytes
+pub alone-stored : (part bytes : List ℕ) → length bytes ≡ length part → splice 0 bytes part ≡ bytes
 unfolding splice
-alone-stored part bytes full fits = rw (zero-add, fits ∙ sym full, drop-length, append-nil)
+alone-stored part bytes fits = rw (zero-add, fits, drop-length, append-nil)
 
 -- ---- block k in the part of disk d, from where that disk starts to where the next one does
 
@@ -73,3 +72,29 @@ module _ (area : List ℕ) (b d k from to : ℕ) (h : InArea b d k area) (starts
   unfolding block
   disk-loads output e =
       e ∙ rw (size, place-in) (loaded area from (b * blockSize) (omega arith) (k * blockSize) blockSize (omega arith))
+
+  -- all of that part zero
+  pub disk-clears : (last : List ℕ) → last ≡ replicate (length (midOf from (to - from) area)) 0
+      → putMid from (to - from) area last ≡ withZeroDisk b area d
+  unfolding withZeroDisk place
+  disk-clears last e =
+      let part = midOf from (b * blockSize) area in
+      let full : length part ≡ b * blockSize = simp (length-take, length-drop) (omega arith) in
+      let zeros : List ℕ = replicate (b * blockSize) 0 in
+      let same = length-replicate {A = ℕ} (b * blockSize) 0 in
+      let front : from + 0 ≡ place b d 0 = omega arith in
+      rw (e, size, full)
+      (ap (λ bytes. putMid from (b * blockSize) area bytes) (sym (alone-stored part zeros (same ∙ sym full)))
+      ∙ stored area from (b * blockSize) (omega arith) 0 zeros (omega (arith, same))
+      ∙ ap (λ at. splice at zeros area) front)
+
+-- disk d of n has its part in the area
+pub disk-in-area : (n b d k : ℕ) (area : List ℕ) → n ≤ mostDisks → b ≤ mostBlocks → length area ≡ areaSize n b → d < n
+    → k < b → InArea b d k area
+unfolding areaSize
+disk-in-area n b d k area disks blocks fits below known = record {
+  disk = omega arith;
+  few = blocks;
+  known = known;
+  whole = rw fits (mul-le-mul-right 64 (mul-le-mul-right b (omega arith)));
+}

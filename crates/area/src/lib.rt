@@ -5,8 +5,9 @@ ghost use Prim.Native.Nat.{_*_, _≤_, _<_};
 ghost use lib.Dec.{eqb};
 ghost use lib.ListN.{length, take, drop};
 ghost use Rattle.buffers.specs.Buffers.{splice};
-ghost use Rattle.protocol.specs.Geometry.{mostDisks, mostBlocks, blockSize, areaSize, block, withBlock};
+ghost use Rattle.protocol.specs.Geometry.{mostDisks, mostBlocks, blockSize, areaSize, block, withBlock, withZeroDisk};
 ghost use Rattle.area.specs.Parts.{InArea, InPart};
+use buffers::clear;
 use protocol::geometry::BLOCK_SIZE;
 
 // Where disk d's part of the area starts. It ends where the next disk's starts.
@@ -63,6 +64,16 @@ pub fn store(area: &mut [u8], blocks: usize, d: usize, k: usize, bytes: [u8; BLO
     let from = start(blocks, d);
     let to = start(blocks, d + 1);
     store_block(&mut area[from..to], k, bytes);
+}
+
+// All blocks of disk d zero.
+pub fn zero_disk(area: &mut [u8], blocks: usize, d: usize)
+    requires { ⌜ InArea blocks d 0 (now area) ⌝ }
+    ensures { λ _. ⌜ now (area .exit) ≡ withZeroDisk blocks (now (area .entry)) d ⌝ }
+{
+    let from = start(blocks, d);
+    let to = start(blocks, d + 1);
+    clear(&mut area[from..to]);
 }
 
 // A block that is lent by itself.

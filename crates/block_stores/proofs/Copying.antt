@@ -15,6 +15,7 @@ use Rattle.protocol.specs.Loops.{ascending, forEach}
 use Rattle.protocol.specs.Stores.{Store, write, copy, apply}
 use Rattle.protocol.proofs.Blocks.{block-length, stored-size, stored-other}
 use Rattle.area.specs.Parts.{InArea}
+use Rattle.area.proofs.Parts.{disk-in-area}
 use Rattle.budget.specs.declared.Run.{Run}
 use Rattle.budget.specs.Runs.{Progress, progress, runOne, runAll, oneIf}
 use Rattle.budget.specs.Sizes.{Fits}
@@ -23,14 +24,7 @@ use Rattle.block_stores.specs.Copying.{LoadedOnce}
 
 -- disk d below n has its part in the area
 pub in-area : (n b d k : ℕ) (area : List ℕ) → Fits n b area → d < n → k < b → InArea b d k area
-unfolding areaSize
-in-area n b d k area fits below known =
-    record {
-      disk = omega arith;
-      few = fits .blocks;
-      known = known;
-      whole = rw (fits .size) (mul-le-mul-right 64 (mul-le-mul-right b (omega arith)));
-    }
+in-area n b d k area fits = disk-in-area n b d k area (fits .disks) (fits .blocks) (fits .size)
 
 -- the block stored in the area, and one store less left
 pub block-made : (b members d k : ℕ) (bytes : List ℕ) (run : Run) (area : List ℕ)

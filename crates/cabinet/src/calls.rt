@@ -27,5 +27,6 @@ pub fn apply(call: Call, s: State, area: &mut [u8], bytes: &[u8], output: &mut [
         Call::Attach { disk } => attach(s, disk),
         Call::PowerOff => power_off(s),
         Call::Diagnose { stage, disk } => without_stores(s, diagnose(s, stage, disk).refusal),
+        Call::Swap { disk, budget } => swapping::swap(s, area, disk, budget),
     }
 }

@@ -1,9 +1,9 @@
-// Document 01's calls on a running cabinet, for programs in C and Rust: blocks are read and written, a disk joins,
-// dirty bits are cleared. include/cabinet.h declares the functions.
+// The calls on a running cabinet, for programs in C and Rust: blocks are read and written, a disk joins or is swapped for
+// a blank one, dirty bits are cleared. include/cabinet.h declares the functions.
 ghost use mathlib.Core.Path.{_≡_};
 ghost use mathlib.Core.List.{List};
 ghost use Prim.Native.Nat.{ℕ};
-ghost use Rattle.protocol.specs.Calls.{readOutcome, writeOutcome, joinOutcome, cleanOutcome};
+ghost use Rattle.protocol.specs.Calls.{readOutcome, writeOutcome, joinOutcome, swapOutcome, cleanOutcome};
 ghost use Rattle.flat.specs.Flat.{opened, flatOutcome};
 use flat::FlatAnswer;
 use flat::FlatState;
@@ -51,6 +51,20 @@ pub extern "C" fn cabinet_join(
         ≡ flatOutcome (joinOutcome (opened state) (now (area .entry)) output disk budget)) ⌝ }
 {
     flat_answer(cabinet::join(opened(state), area, disk, budget))
+}
+
+#[no_mangle]
+pub extern "C" fn cabinet_swap(
+    state: FlatState,
+    area: &mut [u8],
+    disk: usize,
+    budget: u16,
+) -> FlatAnswer
+    ensures { λ r. ⌜ ((output : List ℕ)
+        → record { answer = r; area = now (area .exit); output = output }
+        ≡ flatOutcome (swapOutcome (opened state) (now (area .entry)) output disk budget)) ⌝ }
+{
+    flat_answer(cabinet::swap(opened(state), area, disk, budget))
 }
 
 #[no_mangle]

@@ -10,13 +10,14 @@ use Rattle.refusals.specs.Refusals.{firstOf}
 use Rattle.label.specs.Rules.{outside}
 use Rattle.protocol.specs.declared.Call.{Call}
 use Rattle.protocol.specs.declared.Call.the-variants.{Read, Write, Join, Clean, Restart, Detach, Attach, PowerOff}
-use Rattle.protocol.specs.declared.Call.the-variants.{Diagnose}
+use Rattle.protocol.specs.declared.Call.the-variants.{Diagnose, Swap}
 use Rattle.protocol.specs.Geometry.{areaSize}
 use Rattle.protocol.specs.Soundness.{inRange, sound}
 use Rattle.protocol.specs.Outcomes.{Outcome, outcome, refusedOr}
 use Rattle.protocol.specs.Calls.{unsound, zeroArea, formatOutcome, blockRefusals, readOutcome, writeOutcome}
 use Rattle.protocol.specs.Calls.{joinRefusals, joinOutcome, cleanRefusals, cleanOutcome, restartRefusals}
 use Rattle.protocol.specs.Calls.{restartOutcome, reachRefusals, detachOutcome, attachOutcome, powerOffOutcome}
+use Rattle.protocol.specs.Calls.{swapRefusals, swapOutcome}
 use Rattle.protocol.specs.Diagnosis.{diagnoseRefusals, diagnoseOutcome}
 use Rattle.protocol.specs.States.{zeroState}
 use Rattle.protocol.specs.History.{Step, perform, outcomeOf, cabinetOf}
@@ -43,8 +44,8 @@ module _ (bytes output area : List ℕ) where
   zero-stays : (call : Call)
       → perform call bytes output (record { state = zeroState; area = area }) ≡ outcome 1 0 zeroState area output
   unfolding perform readOutcome writeOutcome joinOutcome cleanOutcome restartOutcome detachOutcome attachOutcome
-      powerOffOutcome diagnoseOutcome blockRefusals joinRefusals cleanRefusals restartRefusals reachRefusals
-      diagnoseRefusals
+      powerOffOutcome diagnoseOutcome swapOutcome blockRefusals joinRefusals cleanRefusals restartRefusals
+      reachRefusals diagnoseRefusals swapRefusals
   zero-stays (Read k budget) = refuses _ _
   zero-stays (Write k budget) = refuses _ _
   zero-stays (Join d budget) = refuses _ _
@@ -54,6 +55,7 @@ module _ (bytes output area : List ℕ) where
   zero-stays (Attach d) = refuses _ _
   zero-stays PowerOff = refuses _ _
   zero-stays (Diagnose stage d) = refuses _ _
+  zero-stays (Swap d budget) = refuses _ _
 
 module _ (call : Call) (byte : ℕ) where
   abbrev x : Step

@@ -7,7 +7,7 @@ use lib.ListN.{take, drop, getD, replicate}
 use Rattle.protocol.specs.declared.Answer.{Answer}
 use Rattle.protocol.specs.declared.Call.{Call}
 use Rattle.protocol.specs.declared.Call.the-variants.{Read, Write, Join, Clean, Restart, Detach, Attach, PowerOff}
-use Rattle.protocol.specs.declared.Call.the-variants.{Diagnose}
+use Rattle.protocol.specs.declared.Call.the-variants.{Diagnose, Swap}
 use Rattle.protocol.specs.declared.State.{State}
 use Rattle.protocol.specs.Geometry.{blockSize, areaSize}
 use Rattle.protocol.specs.States.{currentOf}
@@ -65,6 +65,7 @@ isRead (Detach d) = false
 isRead (Attach d) = false
 isRead PowerOff = false
 isRead (Diagnose stage d) = false
+isRead (Swap d budget) = false
 
 -- "(0 unless a read was done)"
 unfoldable pub firstByte : Call → ℕ → ℕ → ℕ

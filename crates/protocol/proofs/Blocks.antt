@@ -1,4 +1,5 @@
--- Blocks in the disk area: a block that is stored is there, and the others stay. Assumes nothing.
+-- Blocks in the disk area: a block that is stored is there, and the others stay; so are the zeros of a disk. Assumes
+-- nothing.
 use mathlib.Core.Path.{_≡_, sym, ap, _∙_}
 use mathlib.Core.Logic.{_≢_, _⊎_, inl, inr}
 use mathlib.Core.List.{List, _++_}
@@ -9,8 +10,9 @@ use native.Mathlib.Decide.{decLt}
 use lib.ListN.{length, getD, take, drop, replicate, length-append, length-take}
 use lib.ListN.{length-drop, length-replicate, List·getD-append, getD-replicate}
 use lib.Seq.{ext-getD, getD-take, getD-drop, getD-append-add, length-take-le}
+use Rattle.sets.proofs.Tests.{same-or-not}
 use Rattle.buffers.specs.Buffers.{splice}
-use Rattle.protocol.specs.Geometry.{blockSize, regionOf, regions, areaSize, place, block, withBlock}
+use Rattle.protocol.specs.Geometry.{blockSize, regionOf, regions, areaSize, place, block, withBlock, withZeroDisk}
 
 -- ---- parts of a list
 
@@ -73,24 +75,64 @@ place-fits : (n b d k : ℕ) → d < n → k < b → place b d k + blockSize ≤
 unfolding place areaSize
 place-fits n b d k h l = omega (arith, mul-le-mul-right b h)
 
--- places of different blocks lie apart
-data Apart (p q : ℕ) : Type 0 where
-  before : p + blockSize ≤ q → Apart p q
-  behind : q + blockSize ≤ p → Apart p q
+disk-fits : (n b d : ℕ) → d < n → place b d 0 + b * blockSize ≤ areaSize n b
+unfolding place areaSize
+disk-fits n b d h = omega (arith, mul-le-mul-right b h)
 
-apart : (b d k e m : ℕ) → k < b → m < b → (d ≢ e) ⊎ (k ≢ m) → Apart (place b e m) (place b d k)
-unfolding place
-apart b d k e m hk hm ne = go (decLt d e) (decLt e d) ne
+-- a block at q lies apart from so many bytes at p
+data Apart (q p size : ℕ) : Type 0 where
+  before : q + blockSize ≤ p → Apart q p size
+  behind : p + size ≤ q → Apart q p size
+
+-- it stays when they are stored
+stays : (q p size : ℕ) (new old : List ℕ) → length new ≡ size → p + size ≤ length old → q + blockSize ≤ length old
+    → Apart q p size → take blockSize (drop q (splice p new old)) ≡ take blockSize (drop q old)
+stays q p size new old full room f lie =
+    let fits : p + length new ≤ length old = rw full room in
+    same-part blockSize q q (splice p new old) old (rw (splice-length p new old fits) f) f (λ i h. go fits i h lie)
   where
-    blocks : (k ≢ m) → d ≡ e → Dec (k < m) → Apart ((e * b + m) * blockSize) ((d * b + k) * blockSize)
+    go : p + length new ≤ length old → (i : ℕ) → i < blockSize → Apart q p size
+        → getD (splice p new old) (q + i) 0 ≡ getD old (q + i) 0
+    go fits i h (before l) = splice-low p new old fits (q + i) (omega arith)
+    go fits i h (behind l) = splice-high p new old fits (q + i) (omega arith)
+
+-- another disk's block lies apart from all blocks of d ..
+other-disk : (b d e m : ℕ) → m < b → d ≢ e → Apart (place b e m) (place b d 0) (b * blockSize)
+unfolding place
+other-disk b d e m hm ne = go (decLt d e) (decLt e d)
+  where
+    go : Dec (d < e) → Dec (e < d) → Apart ((e * b + m) * blockSize) ((d * b + 0) * blockSize) (b * blockSize)
+    go (yes l) g = behind (omega (arith, mul-le-mul-right b l))
+    go (no l) (yes g) = before (omega (arith, mul-le-mul-right b g))
+    go (no l) (no g) = absurd (ne (omega arith))
+
+-- .. so it lies apart from each of them; and so do two blocks of one disk
+apart : (b d k e m : ℕ) → k < b → m < b → (d ≢ e) ⊎ (k ≢ m) → Apart (place b e m) (place b d k) blockSize
+unfolding place
+apart b d k e m hk hm ne = go (same-or-not d e) ne
+  where
+    narrower : Apart ((e * b + m) * blockSize) ((d * b + 0) * blockSize) (b * blockSize)
+        → Apart ((e * b + m) * blockSize) ((d * b + k) * blockSize) blockSize
+    narrower (before l) = before (omega arith)
+    narrower (behind l) = behind (omega arith)
+
+    blocks : (k ≢ m) → d ≡ e → Dec (k < m) → Apart ((e * b + m) * blockSize) ((d * b + k) * blockSize) blockSize
     blocks ne same (yes l) = rw same (behind (omega arith))
     blocks ne same (no l) = rw same (before (omega arith))
 
-    go : Dec (d < e) → Dec (e < d) → (d ≢ e) ⊎ (k ≢ m) → Apart ((e * b + m) * blockSize) ((d * b + k) * blockSize)
-    go (yes l) g ne = behind (omega (arith, mul-le-mul-right b l))
-    go (no l) (yes g) ne = before (omega (arith, mul-le-mul-right b g))
-    go (no l) (no g) (inl ne) = absurd (ne (omega arith))
-    go (no l) (no g) (inr ne) = blocks ne (omega arith) (decLt k m)
+    go : (d ≡ e) ⊎ (d ≢ e) → (d ≢ e) ⊎ (k ≢ m) → Apart ((e * b + m) * blockSize) ((d * b + k) * blockSize) blockSize
+    go (inr other) z = narrower (other-disk b d e m hm other)
+    go (inl same) (inl ne) = absurd (ne same)
+    go (inl same) (inr ne) = blocks ne same (decLt k m)
+
+-- a part of zeros
+zeros : (size p big : ℕ) → p + size ≤ big → take {A = ℕ} size (drop p (replicate big 0)) ≡ replicate size 0
+zeros size p big f =
+    let l = part-length size p (replicate big 0) (rw length-replicate f) in
+    ext-getD 0 _ _ (l ∙ sym (length-replicate {A = ℕ} size 0))
+    (λ i h. let m : i < size = rw l at h in
+    part-at size p (replicate big 0) i m ∙ getD-replicate big (p + i) 0 0 (omega arith)
+    ∙ sym (getD-replicate size i 0 0 m))
 
 -- ---- blocks
 
@@ -120,26 +162,42 @@ module _ (n b : ℕ) (area : List ℕ) (size : length area ≡ areaSize n b) whe
         → block b (withBlock b area d k bytes) e m ≡ block b area e m
     unfolding block withBlock
     stored-other e m he hm ne =
-        let p = place b d k in
-        let q = place b e m in
-        let f : q + blockSize ≤ length area = rw size (place-fits n b e m he hm) in
-        same-part blockSize q q (splice p bytes area) area (rw (splice-length p bytes area room) f) f
-        (λ i h. go i h (apart b d k e m hk hm ne))
-      where
-        go : (i : ℕ) → i < blockSize → Apart (place b e m) (place b d k)
-            → getD (splice (place b d k) bytes area) (place b e m + i) 0 ≡ getD area (place b e m + i) 0
-        go i h (before l) = splice-low (place b d k) bytes area room (place b e m + i) (omega arith)
-        go i h (behind l) = splice-high (place b d k) bytes area room (place b e m + i) (omega arith)
+        stays (place b e m) (place b d k) blockSize bytes area full (rw size (place-fits n b d k hd hk))
+        (rw size (place-fits n b e m he hm)) (apart b d k e m hk hm ne)
+
+  -- a disk whose blocks are all made zero
+  module _ (d : ℕ) (hd : d < n) where
+    abbrev blanks : List ℕ
+    blanks = replicate (b * blockSize) 0
+
+    whole : length blanks ≡ b * blockSize
+    whole = length-replicate (b * blockSize) 0
+
+    zero-room : place b d 0 + length blanks ≤ length area
+    zero-room = rw (whole, size) (disk-fits n b d hd)
+
+    pub zeroed-size : length (withZeroDisk b area d) ≡ areaSize n b
+    unfolding withZeroDisk
+    zeroed-size = splice-length (place b d 0) blanks area zero-room ∙ size
+
+    pub zeroed-same : (k : ℕ) → k < b → block b (withZeroDisk b area d) d k ≡ replicate blockSize 0
+    unfolding block withZeroDisk place
+    zeroed-same k hk =
+        let l = splice-length (place b d 0) blanks area zero-room in
+        same-part blockSize (place b d k) (k * blockSize) (splice (place b d 0) blanks area) blanks
+        (rw (l, size) (place-fits n b d k hd hk)) (rw whole (omega arith))
+        (λ i h. ap (λ q. getD (splice (place b d 0) blanks area) q 0)
+        (let e : place b d k + i ≡ place b d 0 + (k * blockSize + i) = omega arith in e)
+        ∙ splice-mid (place b d 0) blanks area zero-room (k * blockSize + i) (rw whole (omega arith)))
+        ∙ zeros blockSize (k * blockSize) (b * blockSize) (omega arith)
+
+    pub zeroed-other : (e k : ℕ) → e < n → k < b → d ≢ e → block b (withZeroDisk b area d) e k ≡ block b area e k
+    unfolding block withZeroDisk
+    zeroed-other e k he hk ne =
+        stays (place b e k) (place b d 0) (b * blockSize) blanks area whole (rw size (disk-fits n b d hd))
+        (rw size (place-fits n b e k he hk)) (other-disk b d e k hk ne)
 
 -- an area of zeros
 pub zero-block : (n b d k : ℕ) → d < n → k < b → block b (replicate (areaSize n b) 0) d k ≡ replicate blockSize 0
 unfolding block
-zero-block n b d k hd hk =
-    let big = areaSize n b in
-    let p = place b d k in
-    let f : p + blockSize ≤ big = place-fits n b d k hd hk in
-    let l = part-length blockSize p (replicate big 0) (rw length-replicate f) in
-    ext-getD 0 _ _ (l ∙ sym (length-replicate {A = ℕ} blockSize 0))
-    (λ i h. let m : i < blockSize = rw l at h in
-    part-at blockSize p (replicate big 0) i m ∙ getD-replicate big (p + i) 0 0 (omega arith)
-    ∙ sym (getD-replicate blockSize i 0 0 m))
+zero-block n b d k hd hk = zeros blockSize (place b d k) (areaSize n b) (place-fits n b d k hd hk)

@@ -2,7 +2,7 @@
 use mathlib.Core.List.{List}
 use Rattle.protocol.specs.declared.Call.{Call}
 use Rattle.protocol.specs.declared.Call.the-variants.{Read, Write, Join, Clean, Restart, Detach, Attach, PowerOff}
-use Rattle.protocol.specs.declared.Call.the-variants.{Diagnose}
+use Rattle.protocol.specs.declared.Call.the-variants.{Diagnose, Swap}
 use Prim.Native.Nat.{ℕ}
 use Rattle.protocol.specs.History.{Cabinet, perform}
 use Rattle.protocol.specs.Reference.{carriedBy}
@@ -12,6 +12,7 @@ use Rattle.protocol.proofs.StorelessCalls.{power-off-preserves, diagnos
 use Rattle.protocol.proofs.BlockReads.{read-preserves}
 use Rattle.protocol.proofs.Writes.{write-preserves}
 use Rattle.protocol.proofs.Joins.{join-preserves}
+use Rattle.protocol.proofs.Swaps.{swap-preserves}
 use Rattle.protocol.proofs.Cleans.{clean-preserves}
 use Rattle.protocol.proofs.Restarts.{restart-preserves}
 
@@ -27,3 +28,4 @@ call-preserves (Detach d) bytes output c = detach-preserves c output d
 call-preserves (Attach d) bytes output c = attach-preserves c output d
 call-preserves PowerOff bytes output c = power-off-preserves c output
 call-preserves (Diagnose stage d) bytes output c = diagnose-preserves c output stage d
+call-preserves (Swap d budget) bytes output c = swap-preserves c d output budget

@@ -1,8 +1,8 @@
 -- When the disks of a running cabinet and of a stopped one are consistent with the reference contents, and which single
--- stores keep it. Assumes nothing.
+-- stores keep it; so does a blank disk in the place of one that is not current. Assumes nothing.
 use mathlib.Core.Path.{_≡_, refl, sym, _∙_}
 use mathlib.Core.Logic.{_≢_, _⊎_, inl, inr}
-use mathlib.Core.Bool.{true}
+use mathlib.Core.Bool.{true, false}
 use mathlib.Core.List.{List}
 use Prim.Native.Nat.{ℕ, _≤_, _<_}
 use native.Mathlib.Omega.{arith}
@@ -10,6 +10,7 @@ use lib.ListN.{length, length-set}
 use lib.Seq.{getD-set-same, getD-set-other}
 use Rattle.sets.proofs.Tests.{same-or-not}
 use Rattle.sets.specs.Sets.{has}
+use Rattle.sets.proofs.Membership.{outsider-differs}
 use Rattle.sets.proofs.Bounds.{member-below}
 use Rattle.label.specs.Bytes.{blank}
 use Rattle.protocol.specs.declared.Power.{Power}
@@ -19,12 +20,14 @@ use Rattle.protocol.specs.States.{labelAt, committedAt, tentativeAt, isD
 use Rattle.protocol.specs.Stores.{Disks, copy, withDirty, onArea, onLabel, apply}
 use Rattle.protocol.specs.Naming.{second, Backs}
 use Rattle.protocol.specs.Outcomes.{disksOf}
+use Rattle.protocol.specs.Calls.{withBlankDisk}
 use Rattle.protocol.specs.History.{Cabinet}
 use Rattle.protocol.specs.Reference.{Contents}
-use Rattle.protocol.proofs.Blocks.{block-length, stored-size, stored-same, stored-other}
+use Rattle.protocol.proofs.Blocks.{block-length, stored-size, stored-same, stored-other, zeroed-size, zeroed-other}
 use Rattle.protocol.proofs.Labels.{field-set}
 use Rattle.protocol.proofs.States.{source-has}
 use Rattle.protocol.proofs.Backing.{Backed, Agreed, Recoverable, agreed-recoverable}
+use Rattle.protocol.proofs.MoveStores.{blank-agreed}
 
 module _ (n b : ℕ) (c : Contents) where
   -- block k of disk d is the reference block
@@ -208,6 +211,19 @@ module _ (n b : ℕ) (c : Contents) where
               getD-set-same (w .labels) d (withDirty (labelAt (w .labels) d) map) blank
                   (omega (arith, h .room)),
             ) (q ∙ (rw p at z)))
+
+  -- ---- a blank disk in the place of one that is not current
+
+  pub sync-blanks : (g d : ℕ) (w : Disks) → d < n → has g d ≡ false → InSync g w → InSync g (withBlankDisk b w d)
+  sync-blanks g d w hd out h = record {
+    room = rw length-set (h .room);
+    size = zeroed-size n b (w .area) (h .size) d hd;
+    agreed = blank-agreed n (w .labels) g d (omega (arith, h .room)) out (h .agreed);
+    holds =
+        λ e m k l. zeroed-other n b (w .area) (h .size) d hd e k (member-below g n e (h .agreed .known) m) l
+        (λ q. outsider-differs g d e out m (sym q))
+        ∙ h .holds e m k l;
+  }
 
 -- ---- a cabinet that is consistent with the reference contents
 

@@ -2,21 +2,23 @@
 -- to it. Assumes nothing.
 use mathlib.Core.Path.{_≡_, refl, _∙_}
 use mathlib.Core.Logic.{inl, inr}
-use mathlib.Core.Bool.{true}
+use mathlib.Core.Bool.{true, false}
 use mathlib.Core.List.{List}
 use Prim.Native.Nat.{ℕ, _≤_, _<_}
 use native.Mathlib.Omega.{arith}
 use lib.ListN.{length, length-set}
 use Rattle.sets.specs.Sets.{has, below}
+use Rattle.sets.proofs.Tests.{clash}
 use Rattle.sets.proofs.Bounds.{below-empty, below-difference, below-with}
 use Rattle.label.specs.declared.Label.{Label}
 use Rattle.label.specs.Bytes.{blank}
 use Rattle.protocol.specs.Geometry.{mostDisks, regions}
 use Rattle.protocol.specs.States.{labelAt}
-use Rattle.protocol.specs.Soundness.{FitLabel, FitLabels, FitCurrent}
+use Rattle.protocol.specs.Soundness.{FitSet, FitLabel, FitLabels, FitCurrent}
 use Rattle.protocol.specs.Stores.{Disks, Store, write, copy, mark, clear, propose}
-use Rattle.protocol.specs.Stores.{commit, withDirty, onLabel, apply, applyAll}
+use Rattle.protocol.specs.Stores.{commit, withDirty, onArea, onLabel, apply, applyAll}
 use Rattle.protocol.specs.Lists.{commits, move}
+use Rattle.protocol.specs.Calls.{withBlankDisk}
 use Rattle.protocol.proofs.Loops.{Each}
 use Rattle.protocol.proofs.Lists.{each-proposal, each-move}
 use Rattle.protocol.proofs.Stores.{apply-append, Keeps, keeps}
@@ -97,6 +99,14 @@ module _ (n b : ℕ) where
     pub fit-move : Each KeepsFit (move n s)
     fit-move = each-move n s fit-propose fit-commit
 
+  -- no store, but a fit label too: a disk that is swapped gets a blank one
+  pub fit-blank : (w : Disks) (d : ℕ) → d < n → FitDisks n b w → FitDisks n b (withBlankDisk b w d)
+  fit-blank w d hd h =
+      let empty : FitSet n d 0 = record { known = below-empty n; own = inl refl } in
+      label-set-fits (onArea w _) d blank hd
+      (record { committed = empty; tentative = empty; dirty = below-empty (regions b) })
+      (record { few = h .few; labels = h .labels; slots = h .slots })
+
 -- ---- the current set
 
 module _ (n b g : ℕ) where
@@ -127,6 +137,17 @@ module _ (n b g : ℕ) where
   pub current-clear : (d r : ℕ) → KeepsCurrent (clear d r)
   unfolding apply
   current-clear d r w h = dirty-current w d _ h
+
+  -- .. or those of a disk outside it ..
+  pub blank-current : (w : Disks) (d : ℕ) → d < length (w .labels) → has g d ≡ false → FitCurrent n (w .labels) g
+      → FitCurrent n (withBlankDisk b w d .labels) g
+  blank-current w d room out h = record {
+    known = h .known;
+    filled = h .filled;
+    members =
+        at-set (λ e l. e < n → has g e ≡ true → (l .committed ≡ g) × (l .tentative ≡ 0)) (w .labels) d blank room
+        (λ i m. clash m out) (λ e ne. h .members e);
+  }
 
 -- .. and s after commits of s, and after a move to it
 module _ (n b s : ℕ) (known : below s n ≡ true) (filled : 0 < s) where

@@ -1,7 +1,7 @@
 -- The labels of a list after a store on one of them, and after a whole move. Assumes nothing.
 use mathlib.Core.Path.{_≡_, refl, sym, ap, _∙_}
 use mathlib.Core.Logic.{_≢_, _⊎_, inl, inr}
-use mathlib.Core.Bool.{true, or-true}
+use mathlib.Core.Bool.{true, false, or-true}
 use mathlib.Core.List.{List, [], _∷_}
 use Prim.Native.Nat.{ℕ, zero, suc, _≤_, _<_}
 use native.Mathlib.Omega.{arith}
@@ -9,16 +9,17 @@ use lib.ListN.{length, set, length-set}
 use lib.Seq.{getD-set-same, getD-set-other}
 use borrow.Author.Tests.{eq-eqb}
 use Rattle.sets.specs.Sets.{has, union, singleton}
-use Rattle.sets.proofs.Tests.{and-parts, same-or-not}
+use Rattle.sets.proofs.Tests.{clash, and-parts, same-or-not}
 use Rattle.sets.proofs.Operations.{has-union, has-difference, has-singleton}
 use Rattle.label.specs.declared.Label.{Label}
 use Rattle.label.specs.Bytes.{blank}
 use Rattle.protocol.specs.declared.State.{State}
 use Rattle.protocol.specs.States.{labelAt, committedAt, tentativeAt, isDirty, live}
-use Rattle.protocol.specs.Stores.{Disks, mark, clear, propose, commit, withDirty, withCommitted, apply, applyAll}
-use Rattle.protocol.specs.Lists.{proposals, commits, moveToLive}
-use Rattle.protocol.proofs.Lists.{each-live}
-use Rattle.protocol.proofs.Stores.{keeps, made-members}
+use Rattle.protocol.specs.Stores.{Disks, mark, clear, propose, commit, withDirty, withCommitted}
+use Rattle.protocol.specs.Stores.{onLabel, apply, applyAll}
+use Rattle.protocol.specs.Lists.{proposals, commits, move, moveToLive}
+use Rattle.protocol.proofs.Lists.{each-move, each-live}
+use Rattle.protocol.proofs.Stores.{Along, keeps, keeps-along, made-members}
 
 -- what holds of the new label of d, and of each other label, holds of each label afterwards
 pub at-set : (Q : ℕ → Label → Type 0) (labels : List Label) (d : ℕ) (l : Label) → d < length labels
@@ -37,6 +38,12 @@ field-set f (x ∷ labels) zero l q zero = q
 field-set f (x ∷ labels) zero l q (suc e) = refl
 field-set f (x ∷ labels) (suc d) l q zero = refl
 field-set f (x ∷ labels) (suc d) l q (suc e) = field-set f labels d l q e
+
+-- a blank label in the place of one is blank there: past the end of a list all are
+pub blank-set : (labels : List Label) (d : ℕ) → labelAt (set labels d blank) d ≡ blank
+blank-set [] d = refl
+blank-set (x ∷ labels) zero = refl
+blank-set (x ∷ labels) (suc d) = blank-set labels d
 
 -- ---- dirty bits
 
@@ -85,6 +92,22 @@ move-dirty b s w e = keeps b Kept (each-live s (λ d i m v. propose-keeps d v) (
 pub move-area : (b : ℕ) (s : State) (w : Disks) → applyAll b (moveToLive s) w .area ≡ w .area
 unfolding apply
 move-area b s w = keeps b (λ v. v .area ≡ w .area) (each-live s (λ d i m v q. q) (λ d i m v q. q)) w refl
+
+-- ---- moves that may be cut
+
+-- a move to s leaves the area, and the label of each disk that is not in s
+module _ (b n s d : ℕ) (w : Disks) (out : has s d ≡ false) where
+  abbrev Left : Disks → Type 0
+  Left v = (labelAt (v .labels) d ≡ labelAt (w .labels) d) × (v .area ≡ w .area)
+
+  other : (e : ℕ) → has s e ≡ true → (v : Disks) (l : Label) → Left v → Left (onLabel v e l)
+  other e m v l (q, a) = (getD-set-other (v .labels) e d l blank (λ z. clash m (rw (sym z) out)) ∙ q, a)
+
+  pub move-leaves : Along b Left (move n s) w
+  unfolding apply
+  move-leaves =
+      keeps-along b Left
+      (each-move n s (λ e i m v. other e m v _) (λ e i m v. other e m v _)) w (refl, refl)
 
 -- ---- whole moves
 

@@ -32,6 +32,7 @@ pub mod StorelessCalls
 pub mod BlockReads
 pub mod Writes
 pub mod Joins
+pub mod Swaps
 pub mod Cleans
 pub mod Restarts
 pub mod Calls

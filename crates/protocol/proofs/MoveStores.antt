@@ -1,7 +1,7 @@
--- What one label store of a move does to the sets that labels back. Assumes nothing.
+-- What one label store of a move does to the sets that labels back, and what a blank label does. Assumes nothing.
 use mathlib.Core.Path.{_≡_, refl, sym, ap, _∙_}
 use mathlib.Core.Logic.{_≢_, _⊎_, inl, inr}
-use mathlib.Core.Bool.{true}
+use mathlib.Core.Bool.{true, false}
 use mathlib.Core.List.{List}
 use Prim.Native.Nat.{ℕ, _^_, _<_}
 use native.Mathlib.Omega.{arith}
@@ -51,6 +51,27 @@ module _ (labels : List Label) (d s : ℕ) (room : d < length labels) where
           → Backs second (labelAt labels d) y
       old y f ne (inl e) = absurd (omega arith)
       old y f ne (inr e) = absurd (ne (sym e))
+
+-- ---- a blank label
+
+-- it backs no set, so where a disk outside g gets one, the labels still agree on g
+pub blank-agreed : (n : ℕ) (labels : List Label) (g d : ℕ) → d < length labels → has g d ≡ false → Agreed n labels g
+    → Agreed n (set labels d blank) g
+blank-agreed n labels g d room out h = record {
+  filled = h .filled;
+  known = h .known;
+  members =
+      at-set (λ e l. has g e ≡ true → (l .committed ≡ g) × (l .tentative ≡ 0)) labels d blank room
+      (λ m. clash m out) (λ e ne. h .members e);
+  only = λ x p. h .only x (backed-before labels d blank room 0 none x (some x (p .filled)) p);
+}
+  where
+    some : (x : ℕ) → 0 < x → x ≢ 0
+    some x l e = omega arith
+
+    none : (y : ℕ) → 0 < y → y ≢ 0 → Backs second blank y → Backs second (labelAt labels d) y
+    none y f ne (inl e) = absurd (ne (sym e))
+    none y f ne (inr e) = absurd (ne (sym e))
 
 -- ---- the first half of a move from g to s: each member of g still has it committed, and has s as its T or none
 

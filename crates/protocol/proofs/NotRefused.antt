@@ -1,11 +1,12 @@
 -- What is known where a call is not refused. Assumes nothing.
 use mathlib.Core.Path.{_≡_, refl}
-use mathlib.Core.Bool.{false, not}
+use mathlib.Core.Bool.{true, false, not, _&&_}
 use mathlib.Core.List.{List}
 use Prim.Native.Nat.{ℕ, _<_}
 use lib.Dec.{eqb}
 use lib.ListN.{length}
 use borrow.Author.Tests.{eqb-true, ltb-true, not-false}
+use Rattle.sets.specs.Sets.{has}
 use Rattle.sets.proofs.Tests.{clash, positive}
 use Rattle.refusals.specs.Refusals.{firstOf}
 use Rattle.refusals.proofs.Order.{none-by}
@@ -16,7 +17,7 @@ use Rattle.protocol.specs.Geometry.{blockSize, areaSize}
 use Rattle.protocol.specs.States.{isRunning, currentOf, live}
 use Rattle.protocol.specs.Soundness.{Sound, sound}
 use Rattle.protocol.specs.Naming.{Stage, Found, none, one, several, Candidate, foundNumber, theSet, foundBy}
-use Rattle.protocol.specs.Calls.{wrongArea, blockRefusals, joinRefusals}
+use Rattle.protocol.specs.Calls.{wrongArea, blockRefusals, joinRefusals, swapRefusals}
 use Rattle.protocol.specs.Calls.{cleanRefusals, restartRefusals, reachRefusals}
 use Rattle.protocol.specs.Diagnosis.{diagnoseRefusals}
 use Rattle.protocol.proofs.Soundness.{test-agrees}
@@ -79,6 +80,28 @@ join-passed s area d e =
       runs = runs-if (s .power) (no 6);
       known = ltb-true _ _ (not-false _ (no 8));
       some = positive (live s) (no 12);
+    }
+
+pub record SwapPassed (s : State) (area : List ℕ) (d : ℕ) : Type 0 where
+  pub fit : Sound s
+  pub size : RightArea s area
+  pub runs : Runs (s .power)
+  pub known : d < s .disks
+  pub away : has (s .online) d ≡ false
+  -- where it has to move, there is a disk to move to
+  pub some : has (currentOf (s .power)) d ≡ true → 0 < live s
+
+pub swap-passed : (s : State) (area : List ℕ) (d : ℕ) → firstOf (swapRefusals s area d) ≡ 0 → SwapPassed s area d
+unfolding swapRefusals
+swap-passed s area d e =
+    let no = none-by (swapRefusals s area d) refl e in
+    record {
+      fit = sound-if s (no 1);
+      size = area-if s area (no 2);
+      runs = runs-if (s .power) (no 6);
+      known = ltb-true _ _ (not-false _ (no 8));
+      away = no 24;
+      some = λ m. positive (live s) (let empty = no 12 in cc);
     }
 
 pub record CleanPassed (s : State) : Type 0 where

@@ -1,5 +1,6 @@
--- The ways in which a call ends: refused or not, and its list cut or whole; two lists on one budget. Assumes nothing.
-use mathlib.Core.Path.{_≡_, _∙_}
+-- The ways in which a call ends: refused or not, and its list cut or whole; what a call does behind its list; two lists
+-- on one budget. Assumes nothing.
+use mathlib.Core.Path.{_≡_, ap, _∙_}
 use mathlib.Core.Logic.{_≢_, _⊎_, inl, inr}
 use mathlib.Core.Bool.{Bool, cond}
 use mathlib.Core.List.{List, _++_}
@@ -78,6 +79,30 @@ module _ (stores : List Store) (budget : ℕ) (s : State) (area output : List �
       → P (refusedOr refusals s area output (carryOut stores budget s area output whole))
   refused-cut-or-whole refusals P refused cut made =
       refused-or refusals s area output _ P refused (λ e. cut-or-whole P (cut e) (made e))
+
+-- ---- more than a list
+
+-- a call that has its list carried out, and goes on once all stores are made: what it then makes of that outcome
+module _ (stores : List Store) (budget : ℕ) (s : State) (area output : List ℕ) (whole : Ending)
+    (further : Outcome → Outcome) (done : (count : ℕ) (w : Disks) → whole count w .answer .refusal ≡ 0) {o : Outcome}
+    (carried : o ≡ carryOut stores budget s area output whole) where
+  abbrev goesOn : Ending
+  goesOn count w = further (whole count w)
+
+  pub went-on : o .answer .refusal ≡ 0 → further o ≡ carryOut stores budget s area output goesOn
+  went-on z =
+      cut-or-whole stores budget s area output goesOn (λ p. further o ≡ p)
+      (λ l.
+      let cut = ap (λ p. p .answer .refusal) (carried ∙ is-cut stores budget s area output whole l) in
+      absurd (omega (arith, z, cut)))
+      (λ l. ap further (carried ∙ is-whole stores budget s area output whole l))
+
+  pub left-off : o .answer .refusal ≢ 0 → o ≡ carryOut stores budget s area output goesOn
+  left-off ne =
+      cut-or-whole stores budget s area output goesOn (λ p. o ≡ p)
+      (λ l. carried ∙ is-cut stores budget s area output whole l)
+      (λ l. absurd (ne (ap (λ p. p .answer .refusal) (carried ∙ is-whole stores budget s area output whole l)
+      ∙ done _ _)))
 
 -- ---- two lists on one budget
 

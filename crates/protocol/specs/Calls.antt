@@ -1,22 +1,25 @@
 -- Document 01, "What each call refuses": each call as one function of all that it is given, to all that it yields. The
 -- refusals stand in the order of the paper's paragraphs; 15 is in Outcomes. What a call does not take of area and
 -- output, it leaves.
-use mathlib.Core.Bool.{Bool, not}
+use mathlib.Core.Bool.{Bool, not, cond, _&&_}
 use mathlib.Core.List.{List, [], _∷_}
 use Prim.Native.Nat.{ℕ}
 use lib.Dec.{eqb, ltb}
 use lib.ListN.{length, replicate}
 use Rattle.sets.specs.Sets.{has, union, difference, singleton, all}
 use Rattle.label.specs.declared.Label.{Label}
+use Rattle.label.specs.Bytes.{blank}
+use Rattle.protocol.specs.declared.Power.{Power}
 use Rattle.protocol.specs.declared.Power.the-variants.{Running}
 use Rattle.protocol.specs.declared.State.{State}
-use Rattle.protocol.specs.Geometry.{wrongDiskCount, wrongBlockCount, blockSize, areaSize, block}
+use Rattle.protocol.specs.Geometry.{wrongDiskCount, wrongBlockCount, blockSize, areaSize, block, withZeroDisk}
 use Rattle.protocol.specs.States.{filledUp, stateOf, withOnline, poweredOff}
 use Rattle.protocol.specs.States.{zeroState, currentOf, isRunning, live, source}
 use Rattle.protocol.specs.Soundness.{sound}
-use Rattle.protocol.specs.Lists.{moveToLive, writeList, joinList, cleanList, restartList}
+use Rattle.protocol.specs.Stores.{Disks, onArea, onLabel}
+use Rattle.protocol.specs.Lists.{moveToLive, writeList, joinList, swapList, cleanList, restartList}
 use Rattle.protocol.specs.Naming.{Found, foundNumber, theSet, foundBy}
-use Rattle.protocol.specs.Outcomes.{Outcome, outcome, refusedOr, Ending, runsWith, carryOut}
+use Rattle.protocol.specs.Outcomes.{Outcome, outcome, refusedOr, Ending, ended, runsWith, carryOut}
 
 -- ---- what refusals ask
 
@@ -119,6 +122,37 @@ unfoldable pub joinOutcome : State → List ℕ → List ℕ → ℕ → ℕ →
 joinOutcome s area output d budget =
     refusedOr (joinRefusals s area d) s area output
     (carryOut (joinList s d) budget s area output (runsWith (union (live s) (singleton d)) s output))
+
+-- ---- swap (document 02, 2.5)
+
+-- "The order is 1, 2, 6, 8, 24, then 12 where d is in G, then 15. New numbers: 24, d is in reach."
+unfoldable pub swapRefusals : State → List ℕ → ℕ → List (ℕ × Bool)
+swapRefusals s area d =
+    unsound s ∷
+    areaUnfit s area ∷
+    stopped s ∷
+    noSuchDisk s d ∷
+    (24, has (s .online) d) ∷
+    (12, has (currentOf (s .power)) d && eqb (live s) 0) ∷
+    []
+
+-- "If d is in G the cabinet first moves to L": then G is L, and else what it was
+unfoldable pub swapPower : State → ℕ → Power
+swapPower s d = cond (has (currentOf (s .power)) d) (Running (live s)) (s .power)
+
+-- "an empty label, zero blocks"
+abbrev pub withBlankDisk : ℕ → Disks → ℕ → Disks
+withBlankDisk b w d = onLabel (onArea w (withZeroDisk b (w .area) d)) d blank
+
+-- "When that is done, d has an empty label, zero blocks (no counted stores), and is still out of reach until returned."
+unfoldable pub swapsIn : State → ℕ → List ℕ → Ending
+swapsIn s d output count w = ended 0 count s (withBlankDisk (s .blocks) w d) (swapPower s d) output
+
+-- "A cut during the move leaves the old disk in."
+unfoldable pub swapOutcome : State → List ℕ → List ℕ → ℕ → ℕ → Outcome
+swapOutcome s area output d budget =
+    refusedOr (swapRefusals s area d) s area output
+    (carryOut (swapList s d) budget s area output (swapsIn s d output))
 
 -- ---- clean, the paper's quiet
 

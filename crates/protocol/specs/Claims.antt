@@ -1,22 +1,23 @@
 -- What else is proved of the calls, and of every list of them, beside demand 3.
 use mathlib.Core.Path.{_≡_}
 use mathlib.Core.Logic.{_≢_}
-use mathlib.Core.Bool.{true, _&&_}
+use mathlib.Core.Bool.{true, false, _&&_}
 use mathlib.Core.List.{List, [], _∷_, _++_}
 use Prim.Native.Nat.{ℕ, _+_, _*_, _≤_, _<_}
-use lib.ListN.{length}
+use lib.ListN.{length, replicate}
 use Rattle.sets.specs.Sets.{has, size}
+use Rattle.label.specs.Bytes.{blank}
 use Rattle.protocol.specs.declared.Answer.{Answer}
 use Rattle.protocol.specs.declared.Call.the-variants.{Read, Write}
 use Rattle.protocol.specs.declared.Power.the-variants.{Running}
 use Rattle.protocol.specs.declared.State.{State}
-use Rattle.protocol.specs.Geometry.{areaSize, block}
-use Rattle.protocol.specs.States.{currentOf, live, source}
+use Rattle.protocol.specs.Geometry.{blockSize, areaSize, block}
+use Rattle.protocol.specs.States.{labelAt, currentOf, live, source}
 use Rattle.protocol.specs.Soundness.{InRange, Sound, Proper}
 use Rattle.protocol.specs.Stores.{Store, write, applyAll, made}
-use Rattle.protocol.specs.Lists.{moveToLive, preparations, writeList}
+use Rattle.protocol.specs.Lists.{move, moveToLive, preparations, writeList}
 use Rattle.protocol.specs.Outcomes.{Outcome, outcome, disksOf}
-use Rattle.protocol.specs.Calls.{formatOutcome, readOutcome, writeOutcome, joinOutcome}
+use Rattle.protocol.specs.Calls.{formatOutcome, readOutcome, writeOutcome, joinOutcome, swapOutcome}
 use Rattle.protocol.specs.Saving.{saveOutcome, assembleAnswer}
 use Rattle.protocol.specs.History.{Step, Cabinet, outcomeOf}
 use Rattle.protocol.specs.Reference.{Contents, replaced, carriedBy, afterWrites}
@@ -90,6 +91,47 @@ abbrev pub MembersTold : Type 0
 MembersTold =
     (s : State) (area output : List ℕ) (g d budget : ℕ) → Sound s → length area ≡ areaSize (s .disks) (s .blocks)
     → s .power ≡ Running g → has g d ≡ true → joinOutcome s area output d budget ≡ outcome 11 0 s area output
+
+-- ---- swaps
+
+-- "A blank disk in an old bay" (document 02, 2.5): what a swap of disk d owes, of all that it yields.
+module _ (s : State) (area : List ℕ) (d : ℕ) where
+  pub record Swapping (o : Outcome) : Type 0 where
+    -- "When that is done, d has an empty label, zero blocks .., and is still out of reach until returned"
+    pub blank-label : o .answer .refusal ≡ 0 → labelAt (o .answer .state .labels) d ≡ blank
+    pub zero-blocks : o .answer .refusal ≡ 0 → (k : ℕ) → k < s .blocks
+        → block (s .blocks) (o .area) d k ≡ replicate blockSize 0
+    pub away : o .answer .refusal ≡ 0 → has (o .answer .state .online) d ≡ false
+    -- "A cut during the move leaves the old disk in", and so does each other swap that is not done
+    pub old-disk : o .answer .refusal ≢ 0
+        → (labelAt (o .answer .state .labels) d ≡ labelAt (s .labels) d) × (o .area ≡ area)
+    -- done or not, R stays, and so do the blocks of the other disks
+    pub reach : o .answer .state .online ≡ s .online
+    pub other-blocks : (e k : ℕ) → e < s .disks → k < s .blocks → e ≢ d
+        → block (s .blocks) (o .area) e k ≡ block (s .blocks) area e k
+    -- their labels are "that of exactly so many stores", of those of a move to L
+    pub other-labels : (e : ℕ) → e ≢ d
+        → labelAt (o .answer .state .labels) e
+        ≡ labelAt (applyAll (s .blocks) (made (o .answer .stores) (move (s .disks) (live s))) (disksOf s area) .labels) e
+    -- "If d is in G the cabinet first moves to L": done, it runs with exactly the current disks that are in reach ..
+    pub moved : has (currentOf (s .power)) d ≡ true → o .answer .refusal ≡ 0
+        → (o .answer .stores ≡ length (move (s .disks) (live s)))
+        × (g : ℕ) × (o .answer .state .power ≡ Running g)
+        × ((e : ℕ) → has g e ≡ has (currentOf (s .power)) e && has (s .online) e)
+    -- .. and else it makes no store, and G is as it was
+    pub stayed : has (currentOf (s .power)) d ≡ false
+        → (o .answer .stores ≡ 0) × (o .answer .state .power ≡ s .power)
+
+abbrev pub SwapsBlank : Type 0
+SwapsBlank =
+    (s : State) (area output : List ℕ) (d budget : ℕ) → Swapping s area d (swapOutcome s area output d budget)
+
+-- "then 12 where d is in G": a disk out of reach that is not in G is swapped with any supply, also where L is empty.
+abbrev pub SparesSwapped : Type 0
+SparesSwapped =
+    (s : State) (area output : List ℕ) (g d budget : ℕ) → Sound s → length area ≡ areaSize (s .disks) (s .blocks)
+    → s .power ≡ Running g → d < s .disks → has (s .online) d ≡ false → has g d ≡ false
+    → swapOutcome s area output d budget .answer .refusal ≡ 0
 
 -- ---- reads
 

@@ -3,7 +3,7 @@ use mathlib.Core.Bool.{Bool, _||_}
 use mathlib.Core.List.{List}
 use Prim.Native.Nat.{ℕ, _+_, _-_, _*_, _/_}
 use lib.Dec.{ltb}
-use lib.ListN.{take, drop}
+use lib.ListN.{take, drop, replicate}
 use Rattle.label.specs.declared.Form.{Form}
 use Rattle.label.specs.Form.{narrow}
 use Rattle.label.specs.Rules.{outside}
@@ -63,3 +63,7 @@ block b area d k = take blockSize (drop (place b d k) area)
 -- the area with that block replaced
 unfoldable pub withBlock : ℕ → List ℕ → ℕ → ℕ → List ℕ → List ℕ
 withBlock b area d k bytes = splice (place b d k) bytes area
+
+-- the area with every block of disk d zero
+unfoldable pub withZeroDisk : ℕ → List ℕ → ℕ → List ℕ
+withZeroDisk b area d = splice (place b d 0) (replicate (b * blockSize) 0) area

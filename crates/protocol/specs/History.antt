@@ -3,11 +3,11 @@ use mathlib.Core.List.{List, [], _∷_}
 use Prim.Native.Nat.{ℕ}
 use Rattle.protocol.specs.declared.Call.{Call}
 use Rattle.protocol.specs.declared.Call.the-variants.{Read, Write, Join, Clean, Restart, Detach, Attach, PowerOff}
-use Rattle.protocol.specs.declared.Call.the-variants.{Diagnose}
+use Rattle.protocol.specs.declared.Call.the-variants.{Diagnose, Swap}
 use Rattle.protocol.specs.declared.State.{State}
 use Rattle.protocol.specs.Outcomes.{Outcome}
 use Rattle.protocol.specs.Calls.{readOutcome, writeOutcome, joinOutcome, cleanOutcome}
-use Rattle.protocol.specs.Calls.{restartOutcome, detachOutcome, attachOutcome, powerOffOutcome}
+use Rattle.protocol.specs.Calls.{restartOutcome, detachOutcome, attachOutcome, powerOffOutcome, swapOutcome}
 use Rattle.protocol.specs.Diagnosis.{diagnoseOutcome}
 
 -- A call of the list, "with whatever numbers and with data and output of its own".
@@ -31,6 +31,7 @@ perform (Detach d) bytes output c = detachOutcome (c .state) (c .area) output d
 perform (Attach d) bytes output c = attachOutcome (c .state) (c .area) output d
 perform PowerOff bytes output c = powerOffOutcome (c .state) (c .area) output
 perform (Diagnose stage d) bytes output c = diagnoseOutcome (c .state) (c .area) output stage d
+perform (Swap d budget) bytes output c = swapOutcome (c .state) (c .area) output d budget
 
 abbrev pub outcomeOf : Step → Cabinet → Outcome
 outcomeOf x c = perform (x .call) (x .bytes) (x .output) c

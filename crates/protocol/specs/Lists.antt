@@ -4,7 +4,7 @@ use mathlib.Core.Bool.{cond}
 use mathlib.Core.List.{List, [], _∷_, _++_}
 use Prim.Native.Nat.{ℕ, _+_, _*_}
 use lib.Dec.{eqb, ltb}
-use Rattle.sets.specs.Sets.{union, difference, singleton}
+use Rattle.sets.specs.Sets.{has, union, difference, singleton}
 use Rattle.label.specs.declared.Label.{Label}
 use Rattle.protocol.specs.declared.State.{State}
 use Rattle.protocol.specs.Geometry.{regionSize, regionOf, regions}
@@ -57,6 +57,12 @@ fill b l d = ascending b (λ k. copy (source l) d k ∷ [])
 -- "Join disk d: if L differs from G, move to L. Copy .. Then move to L with d. The dirty map of d is not touched."
 unfoldable pub joinList : State → ℕ → List Store
 joinList s d = moveToLive s ++ (fill (s .blocks) (live s) d ++ move (s .disks) (union (live s) (singleton d)))
+
+-- ---- swap
+
+-- "If d is in G the cabinet first moves to L" (document 02, 2.5): d is out of reach, so L then differs from G.
+unfoldable pub swapList : State → ℕ → List Store
+swapList s d = cond (has (currentOf (s .power)) d) (move (s .disks) (live s)) []
 
 -- ---- clean, the paper's quiet
 

@@ -8,7 +8,7 @@ use lib.ListN.{replicate}
 use Rattle.refusals.specs.Refusals.{firstOf}
 use Rattle.protocol.specs.declared.Call.{Call}
 use Rattle.protocol.specs.declared.Call.the-variants.{Read, Write, Join, Clean, Restart, Detach, Attach, PowerOff}
-use Rattle.protocol.specs.declared.Call.the-variants.{Diagnose}
+use Rattle.protocol.specs.declared.Call.the-variants.{Diagnose, Swap}
 use Rattle.protocol.specs.declared.State.{State}
 use Rattle.protocol.specs.Geometry.{blockSize}
 use Rattle.protocol.specs.States.{live, source}
@@ -50,7 +50,7 @@ carriedWrite k bytes budget s =
     record { block = k; bytes = bytes; source = source (live s); made = made budget (writeList s k bytes) }
 
 -- the writes that a call carries out on this cabinet, in order: "The other seven calls leave the book as it is." So
--- does a diagnosis.
+-- do a diagnosis and a swap.
 unfoldable pub carriedBy : Call → List ℕ → Cabinet → List CarriedWrite
 carriedBy (Read k budget) bytes c = []
 carriedBy (Write k budget) bytes c =
@@ -62,6 +62,7 @@ carriedBy (Detach d) bytes c = []
 carriedBy (Attach d) bytes c = []
 carriedBy PowerOff bytes c = []
 carriedBy (Diagnose stage d) bytes c = []
+carriedBy (Swap d budget) bytes c = []
 
 -- ---- the reference contents
 

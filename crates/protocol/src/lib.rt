@@ -62,4 +62,5 @@ pub enum Call {
     Attach { disk: usize },
     PowerOff,
     Diagnose { stage: usize, disk: usize },
+    Swap { disk: usize, budget: u16 },
 }

@@ -66,5 +66,8 @@ pub const NO_SUCH_REGION: u8 = 22;
 // The stage is not 1, 2 or 3.
 pub const NO_SUCH_STAGE: u8 = 23;
 
+// The disk is in reach.
+pub const DISK_ONLINE: u8 = 24;
+
 // A line of the cabinet program that is no command.
 pub const BAD_LINE: u8 = 99;

@@ -1,6 +1,7 @@
 -- Membership: which numbers are in a set, and that a set is its members. Assumes nothing.
 use mathlib.Core.Path.{_≡_, refl, sym, ap, ap₂, _∙_}
-use mathlib.Core.Bool.{false, false≢true}
+use mathlib.Core.Logic.{_≢_}
+use mathlib.Core.Bool.{true, false, false≢true}
 use Prim.Native.Nat.{ℕ, zero, suc, _+_, _*_, _/_, _%_, _^_, _≤_, _<_}
 use native.Mathlib.Nat.{mod-lt, div-one, zero-div, div-add-mod', div-eq-of-lt, lt-of-lt-of-le}
 use native.Mathlib.Numerals.{one-add}
@@ -9,10 +10,15 @@ use lib.Dec.{eqb, lit<}
 use lib.Arith.{bin-ind}
 use lib.Pow.{pow-mono, shr-shr}
 use Rattle.sets.specs.Sets.{has}
+use Rattle.sets.proofs.Tests.{clash}
 
 pub has-empty : (d : ℕ) → has 0 d ≡ false
 unfolding has
 has-empty d = rw zero-div
+
+-- a member and a number that is none differ
+pub outsider-differs : (s d e : ℕ) → has s d ≡ false → has s e ≡ true → e ≢ d
+outsider-differs s d e out m same = clash m (rw same out)
 
 pub has-lowest-bit : (s : ℕ) → has s 0 ≡ eqb (s % 2) 1
 unfolding has

@@ -1,6 +1,6 @@
 -- A read's answer, once its move was carried out: with the block in the output where all stores were made, and the
 -- output as it was where the power went. Assumes nothing.
-use mathlib.Core.Path.{_≡_, sym, ap, _∙_}
+use mathlib.Core.Path.{_≡_, refl, sym, ap, _∙_}
 use mathlib.Core.Logic.{_≢_}
 use mathlib.Core.Bool.{true}
 use mathlib.Core.List.{List, []}
@@ -17,7 +17,7 @@ use Rattle.protocol.specs.Stores.{applyAll}
 use Rattle.protocol.specs.Lists.{moveToLive}
 use Rattle.protocol.specs.Outcomes.{Outcome, yields, outcome, runsWith, carryOut}
 use Rattle.protocol.specs.Calls.{copiesOut}
-use Rattle.protocol.proofs.Outcomes.{is-cut, is-whole, cut-or-whole}
+use Rattle.protocol.proofs.Outcomes.{is-whole, went-on, left-off}
 
 -- where L is G there is no store to make
 pub no-stores : (s : State) (budget : ℕ) (area output : List ℕ) → s .power ≡ Running (currentOf (s .power))
@@ -31,28 +31,19 @@ no-stores s budget area output runs same =
     (runs ∙ ap Running (sym (eqb-true _ _ same)))
     ∙ sym (is-whole [] budget s area output (runsWith (live s) s output) (omega arith)))
 
+-- the block in the output, where all stores were made
 module _ (s : State) (k budget : ℕ) (area output : List ℕ) (r : Answer)
     (moved : yields r area output ≡ carryOut (moveToLive s) budget s area output (runsWith (live s) s output)) where
   abbrev answered : Outcome
   answered = carryOut (moveToLive s) budget s area output (copiesOut s k)
 
-  abbrev wanted : List ℕ → List ℕ
-  wanted bytes = block (s .blocks) bytes (source (live s)) k
+  abbrev filledOut : Outcome → Outcome
+  filledOut o = yields (o .answer) (o .area) (block (s .blocks) (o .area) (source (live s)) k)
 
-  pub filled : r .refusal ≡ 0 → yields r area (wanted area) ≡ answered
+  pub filled : r .refusal ≡ 0 → filledOut (yields r area output) ≡ answered
   unfolding copiesOut
-  filled done =
-      cut-or-whole (moveToLive s) budget s area output (copiesOut s k) (λ o. yields r area (wanted area) ≡ o)
-      (λ l.
-      let cut = ap (λ o. o .answer .refusal) (moved ∙ is-cut (moveToLive s) budget s area output _ l) in
-      absurd (omega (arith, done, cut)))
-      (λ l. ap (λ o. yields (o .answer) (o .area) (wanted (o .area)))
-      (moved ∙ is-whole (moveToLive s) budget s area output _ l))
+  filled = went-on (moveToLive s) budget s area output (runsWith (live s) s output) filledOut (λ count w. refl) moved
 
   pub kept : r .refusal ≢ 0 → yields r area output ≡ answered
-  kept refused =
-      cut-or-whole (moveToLive s) budget s area output (copiesOut s k) (λ o. yields r area output ≡ o)
-      (λ l. moved ∙ is-cut (moveToLive s) budget s area output _ l)
-      (λ l.
-      let whole = ap (λ o. o .answer .refusal) (moved ∙ is-whole (moveToLive s) budget s area output _ l) in
-      absurd (refused whole))
+  unfolding copiesOut
+  kept = left-off (moveToLive s) budget s area output (runsWith (live s) s output) filledOut (λ count w. refl) moved

@@ -1,7 +1,6 @@
 // The calls on a running cabinet's blocks: read, write and join; each for any state, buffers and numbers.
 mod checks;
 mod joining;
-mod moves;
 mod reading;
 mod writing;
 

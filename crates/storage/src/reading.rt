@@ -9,13 +9,10 @@ ghost use Rattle.protocol.specs.Lists.{moveToLive};
 ghost use Rattle.protocol.specs.Outcomes.{yields, runsWith, carryOut};
 ghost use Rattle.protocol.specs.Calls.{readOutcome};
 use crate::checks::block_refusal;
-use crate::moves::all_live;
-use crate::moves::move_length;
-use crate::moves::move_to;
 use area::load;
 use area::to_slice;
-use budget::ended;
-use budget::started;
+use moves::all_live;
+use moves::moved_to_live;
 use protocol::Answer;
 use protocol::State;
 use state::live;
@@ -33,10 +30,7 @@ fn read_stores(s: State, budget: u16) -> Answer
     if all_live(s) {
         return without_stores(s, 0);
     }
-    let live = live(s);
-    let stores = move_length(live);
-    let run = move_to(started(s, budget), s.disks as usize, live);
-    ended(s, run, stores, live, budget)
+    moved_to_live(s, budget)
 }
 
 // "Read copies block k from the lowest member of L.": only when its stores are all made, for "a read that is cut leaves

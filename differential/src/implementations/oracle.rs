@@ -28,6 +28,7 @@ impl Implementation for Reference {
             Call::Read => cabinet.read(number, &mut buffer, supply),
             Call::Write => cabinet.write(number, &buffer, supply),
             Call::Join => cabinet.join(number, supply),
+            Call::Swap => cabinet.swap(number, supply),
             Call::Quiet => cabinet.quiet(supply),
             Call::Restart => cabinet.restart(supply),
             Call::Lose => cabinet.lose(number),

@@ -20,6 +20,7 @@ impl Implementation for Plain {
             Call::Read => plain::read(state, area, case.number, buffer, case.supply),
             Call::Write => plain::write(state, area, case.number, buffer, case.supply),
             Call::Join => plain::join(state, area, case.number, case.supply),
+            Call::Swap => plain::swap(state, area, case.number, case.supply),
             Call::Quiet => plain::quiet(state, case.supply),
             Call::Restart => plain::restart(state, area, case.supply),
             Call::Lose => plain::lose(state, case.number),

@@ -23,6 +23,7 @@ impl Implementation for Proved {
             Call::Read => state.read(area, case.number, buffer, case.supply),
             Call::Write => state.write(area, case.number, buffer, case.supply),
             Call::Join => state.join(area, case.number, case.supply),
+            Call::Swap => state.swap(area, case.number, case.supply),
             Call::Quiet => state.clean(case.supply),
             Call::Restart => state.restart(area, case.supply),
             Call::Lose => state.detach(case.number),

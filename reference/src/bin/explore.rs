@@ -3,7 +3,6 @@
 
 #![forbid(unsafe_code)]
 
-use reference::claims::Claim;
 use reference::explorer::{explore, SIZES};
 use reference::mistakes::{Mistake, Rules};
 use reference::refutation::refute;
@@ -23,7 +22,7 @@ fn paper_holds() -> bool {
     println!("The paper's rules, all claims in each state and of each call:");
     let mut holds = true;
     for (n, b) in SIZES {
-        let survey = explore(Rules::PAPER, Rules::PAPER, (n, b), &Claim::all());
+        let survey = explore(Rules::PAPER, Rules::PAPER, (n, b), None);
         let (states, calls) = (survey.states, survey.transitions);
         println!("  n = {n}, b = {b}: {states} states, {calls} calls");
         if let Some(failure) = survey.failure {

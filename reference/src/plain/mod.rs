@@ -18,6 +18,7 @@ mod sets;
 mod slots;
 mod state;
 mod stores;
+mod swap;
 
 pub use answer::Answer;
 pub use diagnosis::{diagnose, Diagnosis};
@@ -28,3 +29,4 @@ pub use restart::restart;
 pub use running::{join, quiet, read, write};
 pub use slots::{assemble, save};
 pub use state::{Label, State};
+pub use swap::swap;

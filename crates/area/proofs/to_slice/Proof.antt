@@ -9,7 +9,7 @@ use Rattle.area.proofs.to_slice.Tie as tie
 returns : tie.Need-returns
 returns c =
     c .before .before .store-block .ensures
-    ∙ alone-stored _ _ (c .before .before .before .before .before .pre) (omega arith)
+    ∙ alone-stored _ _ (omega (arith, c .before .before .before .before .before .pre))
 
 pub to-slice-spec : {M : Type 1} → statement M
 to-slice-spec = tie.close (tie.spec (search needs) (search needs) returns)

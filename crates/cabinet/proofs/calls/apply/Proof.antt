@@ -48,10 +48,14 @@ returns-9 c =
     )
     (sym (changes-nothing _ _ _ _ _))
 
+returns-10 : tie.Need-returns-10
+unfolding perform
+returns-10 c = rw (c .before .before .before .before .before .call9 .given .1) (c .before .before .swap .ensures _)
+
 pub apply-spec : {M : Type 1} → statement M
 apply-spec =
     tie.close (tie.spec (search needs) (search needs) (search needs) (search needs) (search needs)
     (search needs) (search needs) (search needs) (search needs) (search needs) (search needs) (search needs)
     (search needs) (search needs) (search needs) (search needs) (search needs) (search needs) (search needs)
-    (search needs) (search needs) returns (search needs) returns-2 (search needs) returns-3 returns-4 (search needs)
-    returns-5 returns-6 returns-7 returns-8 returns-9)
+    (search needs) (search needs) (search needs) (search needs) returns (search needs) returns-2 (search needs)
+    returns-3 returns-4 (search needs) returns-5 returns-6 returns-7 returns-8 returns-9 (search needs) returns-10)
