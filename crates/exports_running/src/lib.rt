@@ -1,5 +1,5 @@
-// The calls on a running cabinet, for programs in C and Rust: blocks are read and written, a disk joins or is swapped for
-// a blank one, dirty bits are cleared. include/cabinet.h declares the functions.
+// The calls on a running cabinet, for programs in C and Rust: blocks are read and written, a disk joins or is swapped
+// for a blank one, dirty bits are cleared. include/cabinet.h declares the functions.
 ghost use mathlib.Core.Path.{_≡_};
 ghost use mathlib.Core.List.{List};
 ghost use Prim.Native.Nat.{ℕ};

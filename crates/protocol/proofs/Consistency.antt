@@ -23,7 +23,8 @@ use Rattle.protocol.specs.Outcomes.{disksOf}
 use Rattle.protocol.specs.Calls.{withBlankDisk}
 use Rattle.protocol.specs.History.{Cabinet}
 use Rattle.protocol.specs.Reference.{Contents}
-use Rattle.protocol.proofs.Blocks.{block-length, stored-size, stored-same, stored-other, zeroed-size, zeroed-other}
+use Rattle.protocol.proofs.Blocks.{block-length, stored-size, stored-same, stored-other}
+use Rattle.protocol.proofs.Blocks.{zeroed-size, zeroed-other}
 use Rattle.protocol.proofs.Labels.{field-set}
 use Rattle.protocol.proofs.States.{source-has}
 use Rattle.protocol.proofs.Backing.{Backed, Agreed, Recoverable, agreed-recoverable}

@@ -1,16 +1,15 @@
 -- The labels of a list after a store on one of them, and after a whole move. Assumes nothing.
 use mathlib.Core.Path.{_≡_, refl, sym, ap, _∙_}
 use mathlib.Core.Logic.{_≢_, _⊎_, inl, inr}
-use mathlib.Core.Bool.{true, false, or-true}
+use mathlib.Core.Bool.{true, false}
 use mathlib.Core.List.{List, [], _∷_}
 use Prim.Native.Nat.{ℕ, zero, suc, _≤_, _<_}
 use native.Mathlib.Omega.{arith}
 use lib.ListN.{length, set, length-set}
 use lib.Seq.{getD-set-same, getD-set-other}
-use borrow.Author.Tests.{eq-eqb}
 use Rattle.sets.specs.Sets.{has, union, singleton}
 use Rattle.sets.proofs.Tests.{clash, and-parts, same-or-not}
-use Rattle.sets.proofs.Operations.{has-union, has-difference, has-singleton}
+use Rattle.sets.proofs.Operations.{has-union, has-difference, has-with}
 use Rattle.label.specs.declared.Label.{Label}
 use Rattle.label.specs.Bytes.{blank}
 use Rattle.protocol.specs.declared.State.{State}
@@ -52,15 +51,9 @@ module _ (b d r : ℕ) (w : Disks) (room : d < length (w .labels)) where
   pub mark-sets : isDirty (apply b (mark d r) w .labels) d r ≡ true
   unfolding apply
   mark-sets =
-      rw (
-        getD-set-same (w .labels) d
-            (withDirty (labelAt (w .labels) d)
-            (union ((labelAt (w .labels) d) .dirty) (singleton r))) blank room,
-        has-union,
-        has-singleton,
-        eq-eqb r r refl,
-      )
-      (or-true (isDirty (w .labels) d r))
+      let map = (labelAt (w .labels) d) .dirty in
+      rw (getD-set-same (w .labels) d (withDirty (labelAt (w .labels) d) (union map (singleton r))) blank room)
+      (has-with map r)
 
   pub mark-keeps : (e q : ℕ) → isDirty (w .labels) e q ≡ true → isDirty (apply b (mark d r) w .labels) e q ≡ true
   unfolding apply

@@ -49,6 +49,7 @@ pub mod ReadsRight
 pub mod WritesCount
 pub mod WriteBound
 pub mod MembersTold
+pub mod SwapsBlank
 pub mod Reasons
 pub mod Diagnoses
 pub mod SoundnessKept

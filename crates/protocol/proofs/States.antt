@@ -1,7 +1,7 @@
 -- The parts of a state that have a name: the copy source of a set, the live set, and labels filled up with blank ones.
 -- Assumes nothing.
 use mathlib.Core.Path.{_≡_, refl, sym, _∙_}
-use mathlib.Core.Bool.{true}
+use mathlib.Core.Bool.{true, false, and-false}
 use mathlib.Core.List.{List, [], _∷_, _++_}
 use Prim.Native.Nat.{ℕ, zero, suc, _-_, _≤_, _<_}
 use native.Mathlib.Nat.{add-sub-of-le}
@@ -36,6 +36,11 @@ module _ (s : State) (d : ℕ) (m : has (live s) d ≡ true) where
 
   pub live-in-reach : has (s .online) d ≡ true
   live-in-reach = live-both .1
+
+-- a disk out of reach is not live
+pub not-live : (s : State) (d : ℕ) → has (s .online) d ≡ false → has (live s) d ≡ false
+not-live s d away =
+    has-intersection (currentOf (s .power)) (s .online) d ∙ rw away (and-false (has (currentOf (s .power)) d))
 
 -- labels that are filled up read as before: past its end a list has blank ones
 pub filled-up : (n : ℕ) (labels : List Label) (d : ℕ) → labelAt (filledUp n labels) d ≡ labelAt labels d

@@ -15,11 +15,12 @@ use Rattle.protocol.specs.Geometry.{blockSize, areaSize, block}
 use Rattle.protocol.specs.States.{labelAt, currentOf, live, source}
 use Rattle.protocol.specs.Soundness.{InRange, Sound, Proper}
 use Rattle.protocol.specs.Stores.{Store, write, applyAll, made}
-use Rattle.protocol.specs.Lists.{move, moveToLive, preparations, writeList}
+use Rattle.protocol.specs.Lists.{move, moveToLive, preparations, writeList, joinList}
 use Rattle.protocol.specs.Outcomes.{Outcome, outcome, disksOf}
 use Rattle.protocol.specs.Calls.{formatOutcome, readOutcome, writeOutcome, joinOutcome, swapOutcome}
+use Rattle.protocol.specs.Calls.{attachOutcome}
 use Rattle.protocol.specs.Saving.{saveOutcome, assembleAnswer}
-use Rattle.protocol.specs.History.{Step, Cabinet, outcomeOf}
+use Rattle.protocol.specs.History.{Step, Cabinet, outcomeOf, cabinetOf}
 use Rattle.protocol.specs.Reference.{Contents, replaced, carriedBy, afterWrites}
 use Rattle.protocol.specs.Demand3.{CallIn, result, contentsAt}
 
@@ -111,8 +112,8 @@ module _ (s : State) (area : List ℕ) (d : ℕ) where
         → block (s .blocks) (o .area) e k ≡ block (s .blocks) area e k
     -- their labels are "that of exactly so many stores", of those of a move to L
     pub other-labels : (e : ℕ) → e ≢ d
-        → labelAt (o .answer .state .labels) e
-        ≡ labelAt (applyAll (s .blocks) (made (o .answer .stores) (move (s .disks) (live s))) (disksOf s area) .labels) e
+        → let stores = made (o .answer .stores) (move (s .disks) (live s)) in
+        labelAt (o .answer .state .labels) e ≡ labelAt (applyAll (s .blocks) stores (disksOf s area) .labels) e
     -- "If d is in G the cabinet first moves to L": done, it runs with exactly the current disks that are in reach ..
     pub moved : has (currentOf (s .power)) d ≡ true → o .answer .refusal ≡ 0
         → (o .answer .stores ≡ length (move (s .disks) (live s)))
@@ -132,6 +133,21 @@ SparesSwapped =
     (s : State) (area output : List ℕ) (g d budget : ℕ) → Sound s → length area ≡ areaSize (s .disks) (s .blocks)
     → s .power ≡ Running g → d < s .disks → has (s .online) d ≡ false → has g d ≡ false
     → swapOutcome s area output d budget .answer .refusal ≡ 0
+
+-- What the technician relies on, of a cabinet that a done swap of disk d left: the disk can be returned, and where some
+-- current disk is in reach it can then join, and is current.
+pub record Joinable (c : Cabinet) (output : List ℕ) (d budget : ℕ) : Type 0 where
+  pub back : State
+  pub returns : attachOutcome (c .state) (c .area) output d ≡ outcome 0 0 back (c .area) output
+  pub joins : 0 < live (c .state) → length (joinList back d) ≤ budget
+      → (joinOutcome back (c .area) output d budget .answer .refusal ≡ 0)
+      × (g : ℕ) × (joinOutcome back (c .area) output d budget .answer .state .power ≡ Running g) × (has g d ≡ true)
+
+abbrev pub SwappedJoins : Type 0
+SwappedJoins =
+    (s : State) (area output : List ℕ) (d budget later : ℕ) → Proper s
+    → swapOutcome s area output d budget .answer .refusal ≡ 0
+    → Joinable (cabinetOf (swapOutcome s area output d budget)) output d later
 
 -- ---- reads
 

@@ -1,7 +1,7 @@
 -- The members that each operation on sets gives. Assumes nothing.
 use mathlib.Core.Path.{_≡_, refl, sym, ap, _∙_}
 use mathlib.Core.Logic.{_↔_}
-use mathlib.Core.Bool.{Bool, true, false, not, _&&_, _||_}
+use mathlib.Core.Bool.{Bool, true, false, not, _&&_, _||_, or-true}
 use Prim.Native.Nat.{ℕ, zero, suc, _-_, _*_, _/_, _%_, _^_, _<_, min, max}
 use native.Mathlib.Nat.{mod-lt, mul-mod-left, mul-div-cancel, pow-suc}
 use lib.Arith.{lt-one}
@@ -99,6 +99,10 @@ has-singleton zero (suc d) = has-half 1 d ∙ has-empty d ∙ sym (eqb·suc-zero
 has-singleton (suc i) zero = has-lowest-bit (2 ^ suc i) ∙ rw (pow-suc 2 i, mul-mod-left, eqb·zero-suc i)
 has-singleton (suc i) (suc d) =
     has-half (2 ^ suc i) d ∙ rw (pow-suc 2 i, mul-div-cancel (2 ^ i) (lit< tt), eqb·suc-suc) (has-singleton i d)
+
+-- a set with a disk has it
+pub has-with : (a d : ℕ) → has (union a (singleton d)) d ≡ true
+has-with a d = has-union a (singleton d) d ∙ rw (has-singleton d d, eq-eqb d d refl) (or-true (has a d))
 
 pub has-all : (n d : ℕ) → has (all n) d ≡ ltb d n
 unfolding all

@@ -1,1 +1,3 @@
+-- The laws of swap.
+pub mod Passed
 pub mod SwapAnswer

@@ -1,46 +1,24 @@
--- A swap's answer: what is known once it is not refused, and what it is behind its move. Assumes nothing.
+-- A swap's answer: the move, where the disk is current, and behind it the blank disk, where all stores were made.
+-- Assumes nothing.
 use mathlib.Core.Path.{_≡_, refl, sym, ap₂, _∙_}
 use mathlib.Core.Logic.{_≢_}
 use mathlib.Core.Bool.{true, false}
 use mathlib.Core.List.{List, []}
-use Prim.Native.Nat.{ℕ, _<_}
+use Prim.Native.Nat.{ℕ}
 use native.Mathlib.Omega.{arith}
 use Rattle.sets.specs.Sets.{has}
-use Rattle.refusals.specs.Refusals.{firstOf}
 use Rattle.protocol.specs.declared.Answer.{Answer}
 use Rattle.protocol.specs.declared.Power.{Power}
 use Rattle.protocol.specs.declared.State.{State}
-use Rattle.protocol.specs.Geometry.{mostDisks, withZeroDisk}
+use Rattle.protocol.specs.Geometry.{withZeroDisk}
 use Rattle.protocol.specs.States.{currentOf, live}
-use Rattle.protocol.specs.Soundness.{Sound}
 use Rattle.protocol.specs.Stores.{Store, applyAll}
 use Rattle.protocol.specs.Lists.{move, swapList}
 use Rattle.protocol.specs.Outcomes.{Outcome, yields, ended, runsWith, carryOut}
-use Rattle.protocol.specs.Calls.{swapRefusals, swapsIn}
-use Rattle.protocol.proofs.NotRefused.{swap-passed}
+use Rattle.protocol.specs.Calls.{swapsIn}
 use Rattle.protocol.proofs.Outcomes.{is-whole, went-on, left-off}
 use Rattle.protocol.proofs.Swaps.{member-list, member-power, spare-list, spare-power}
-use Rattle.area.specs.Parts.{InArea}
-use Rattle.area.proofs.Parts.{disk-in-area}
 use Rattle.swapping.specs.Steps.{movedOff, withBlankLabel}
-
--- ---- not refused
-
-module _ (s : State) (area : List ℕ) (d : ℕ) (e : firstOf (swapRefusals s area d) ≡ 0) where
-  pub swap-sound : Sound s
-  swap-sound = swap-passed s area d e .fit
-
-  pub known-disk : d < mostDisks
-  known-disk = let pass = swap-passed s area d e in omega (arith, pass .known, pass .fit .range .disks)
-
-  pub disk-part : InArea (s .blocks) d 0 area
-  disk-part =
-      let pass = swap-passed s area d e in
-      let range = pass .fit .range in
-      disk-in-area (s .disks) (s .blocks) d 0 area (range .disks) (range .blocks) (pass .size) (pass .known)
-      (range .some-block)
-
--- ---- the move, where the disk is current
 
 module _ (s : State) (d budget : ℕ) (area output : List ℕ) where
   -- a list of stores, and then this power condition

@@ -47,8 +47,8 @@ fn with_blank_label(answer: Answer, d: usize) -> Answer
     }
 }
 
-// "When that is done, d has an empty label, zero blocks (no counted stores), and is still out of reach until returned. A
-// cut during the move leaves the old disk in." Given no output, it leaves any.
+// "When that is done, d has an empty label, zero blocks (no counted stores), and is still out of reach until returned.
+// A cut during the move leaves the old disk in." Given no output, it leaves any.
 pub fn swap(s: State, area: &mut [u8], d: usize, budget: u16) -> Answer
     ensures { λ r. ⌜ ((output : List ℕ) → yields r (now (area .exit)) output
         ≡ swapOutcome s (now (area .entry)) output d budget) ⌝ }

@@ -3,7 +3,8 @@ use mathlib.Core.Path.{refl, sym, _∙_}
 use borrow.Author.Needs.{needs}
 use Rattle.protocol.specs.Calls.{swapOutcome}
 use Rattle.protocol.proofs.Outcomes.{refused, passed}
-use Rattle.swapping.proofs.SwapAnswer.{swap-sound, known-disk, disk-part, swapped, old-disk-in}
+use Rattle.swapping.proofs.Passed.{swap-sound, known-disk, disk-part}
+use Rattle.swapping.proofs.SwapAnswer.{swapped, old-disk-in}
 use Rattle.swapping.proofs.swapping.swap.Statement.{statement}
 use Rattle.swapping.proofs.swapping.swap.Tie as tie
 
