@@ -140,9 +140,9 @@ fn after_a_cut_at_every_store_a_restart_gives_what_the_page_says_and_the_book_ho
     let mut told = 0;
     for row in rows().into_iter().filter(|row| row[0].starts_with("after ")) {
         let words: Vec<&str> = row[0].split(' ').collect();
-        let number = |word: &str| word.parse::<u16>().expect("a number of stores");
+        let numbers: Vec<u16> = words.iter().flat_map(|word| word.parse()).collect();
         let call = words[words.len() - 1];
-        for supply in number(words[1])..=number(words[3]) {
+        for supply in numbers[0]..=numbers[numbers.len() - 1] {
             let mut cabinet = Cabinet::written();
             cabinet.make_all(PATH.split(|name| *name == call).next().expect("what comes before it"));
             let cut = cabinet.make(call, supply);
@@ -172,8 +172,6 @@ fn a_read_after_the_loss_leaves_the_swap_no_store_to_make() {
     let mut cabinet = Cabinet::written();
     cabinet.make_all(&PATH[..1]);
     cabinet.state = cabinet.state.read(&cabinet.area, 0, &mut book(0), SUPPLY).state;
-    assert_eq!(
-        (cabinet.make("swap", 0).outcome(), cabinet.make("swap", 0).stores),
-        (Ok(()), 0)
-    );
+    let swapped = cabinet.make("swap", 0);
+    assert_eq!((swapped.outcome(), swapped.stores), (Ok(()), 0));
 }

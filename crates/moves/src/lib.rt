@@ -59,6 +59,7 @@ pub fn move_length(set: Mask) -> usize
     2 * sets::size(set)
 }
 
+// How many "if L differs from G, move to L" has.
 pub fn live_length(s: State) -> usize
     ensures { λ r. ⌜ (Sound s → r ≡ length (moveToLive s)) × (r ≤ 2 * mostDisks) ⌝ }
 {
