@@ -110,7 +110,7 @@ module _ (s : State) (area : List ℕ) (d : ℕ) where
     pub reach : o .answer .state .online ≡ s .online
     pub other-blocks : (e k : ℕ) → e < s .disks → k < s .blocks → e ≢ d
         → block (s .blocks) (o .area) e k ≡ block (s .blocks) area e k
-    -- their labels are "that of exactly so many stores", of those of a move to L
+    -- their labels are those of exactly so many stores of a move to L
     pub other-labels : (e : ℕ) → e ≢ d
         → let stores = made (o .answer .stores) (move (s .disks) (live s)) in
         labelAt (o .answer .state .labels) e ≡ labelAt (applyAll (s .blocks) stores (disksOf s area) .labels) e
