@@ -120,10 +120,10 @@ impl State {
             .all(|(d, l)| names(l.committed, d) && names(l.tentative, d))
     }
 
-    /// "Dirty bits name existing regions", of which there are at most 8 where b is in range.
+    /// "Dirty bits name existing regions."
     fn dirty_bits_name_regions(&self) -> bool {
         let regions = self.regions();
-        self.labels.iter().all(|l| u16::from(l.dirty) >> regions == 0)
+        self.labels.iter().all(|l| (regions..8).all(|r| !l.is_dirty(r)))
     }
 
     /// "Labels from n up are all zero."

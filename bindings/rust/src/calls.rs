@@ -108,7 +108,7 @@ impl State {
     /// [attach](State::attach) it, then [join](State::join) it.
     ///
     /// ```
-    /// # use cabinet::{area_length, Refusal, State, BLOCK_SIZE};
+    /// # use cabinet::{area_length, State, BLOCK_SIZE};
     /// let mut area = vec![0; area_length(3, 8).expect("3 disks of 8 blocks")];
     /// let state = State::format(3, 8, &mut area).state;
     /// let state = state.write(&mut area, 0, &[7; BLOCK_SIZE], 99).state;
