@@ -11,6 +11,14 @@ static struct cabinet_state told(struct cabinet_answer answer)
     return answer.state;
 }
 
+/* A disk returns as it was pulled: it shows the label that the state holds for it. */
+static struct cabinet_answer returned(struct cabinet_state state, size_t disk)
+{
+    uint8_t shown[CABINET_SLOT_SIZE];
+    struct cabinet_written w = cabinet_write_label(shown, sizeof shown, disk, state.disks, state.labels[disk]);
+    return cabinet_attach(state, disk, shown, w.length);
+}
+
 /* Prints what a read found. */
 static void block(const uint8_t *bytes)
 {
@@ -51,15 +59,19 @@ int main(void)
     s = told(cabinet_write(s, area, sizeof area, 0, sevens, sizeof sevens, 99));
     s = told(cabinet_power_off(s));
     s = told(cabinet_restart(s, area, sizeof area, 99));
-    s = told(cabinet_attach(s, 2));
+    s = told(returned(s, 2));
     s = told(cabinet_join(s, area, sizeof area, 2, 99));
     s = told(cabinet_read(s, area, sizeof area, 0, found, sizeof found, 99));
     block(found);
 
     /* Disk 2 dies, and a blank one joins in its place. */
+    s = told(cabinet_save(s, slots, sizeof slots));
     s = told(cabinet_detach(s, 2));
     s = told(cabinet_swap(s, area, sizeof area, 2, 99));
-    s = told(cabinet_attach(s, 2));
+    /* The dead one is not it, and neither is disk 1; then the new one, whose label is empty. */
+    s = told(cabinet_attach(s, 2, slots + 2 * CABINET_SLOT_SIZE, CABINET_SLOT_SIZE));
+    s = told(cabinet_attach(s, 2, slots + CABINET_SLOT_SIZE, CABINET_SLOT_SIZE));
+    s = told(returned(s, 2));
     s = told(cabinet_join(s, area, sizeof area, 2, 99));
 
     s = told(cabinet_write(s, area, sizeof area, 7, sevens, sizeof sevens, 99));

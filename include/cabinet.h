@@ -107,13 +107,14 @@ enum cabinet_refusal {
     CABINET_POWER_LOST = 15,        /* the call has more stores to make than the budget */
     CABINET_LABEL_CUT_SHORT = 16,   /* there are fewer bytes than the label has */
     CABINET_LABEL_MAP = 17,         /* a bit from 3 up stands in the label's map */
-    CABINET_LABEL_PLACE = 18,       /* the label's disk number or number of disks cannot be, or is not its slot's */
+    CABINET_LABEL_PLACE = 18,       /* the label's disk number or number of disks cannot be, or is not its bay's */
     CABINET_LABEL_EMPTY_FIELD = 19, /* a field that the label's map names is 0 */
     CABINET_LABEL_SET = 20,         /* a set of the label names a disk that is not there, or omits its own */
     CABINET_NO_ROOM = 21,           /* the output is shorter than the label */
     CABINET_NO_SUCH_REGION = 22,    /* a dirty bit of the label names no region */
     CABINET_NO_SUCH_STAGE = 23,     /* the stage is not 1, 2 or 3 */
-    CABINET_DISK_ONLINE = 24        /* the disk is online */
+    CABINET_DISK_ONLINE = 24,       /* the disk is online */
+    CABINET_OTHER_LABEL = 25        /* the label that the disk shows is not the one that the state holds for it */
 };
 
 /* Why a disk's own set (its tentative one if there is one, else its committed one) is no candidate of a stage. The
@@ -151,8 +152,8 @@ struct cabinet_answer cabinet_join(struct cabinet_state state, uint8_t *area, si
 
 /* Puts a blank disk in the place of one that is not online, while the cabinet runs: its label is all zero, and so are
    its blocks, which counts no store. If the disk is current, the cabinet first moves to the current disks that are
-   online; else it makes no store, and a budget of 0 will do. The new disk is not online: attach it, then join it. If
-   the power is lost the old disk is still in, its label and its blocks as they were.
+   online; else it makes no store, and a budget of 0 will do. The new disk is not online: attach it by its empty label,
+   then join it. If the power is lost the old disk is still in, its label and its blocks as they were.
    Refuses: 1, 2, 6, 8, 24, 12 (only if the disk is current), 15. */
 struct cabinet_answer cabinet_swap(struct cabinet_state state, uint8_t *area, size_t area_length, size_t disk,
                                    uint16_t budget);
@@ -170,10 +171,14 @@ struct cabinet_answer cabinet_restart(struct cabinet_state state, uint8_t *area,
    Refuses: 1, 8. */
 struct cabinet_answer cabinet_detach(struct cabinet_state state, size_t disk);
 
-/* Puts the disk into the set online, whether it was in it or not; 0 stores. If it is still in the current set, it is
-   current again.
-   Refuses: 1, 8. */
-struct cabinet_answer cabinet_attach(struct cabinet_state state, size_t disk);
+/* Puts the disk into the set online; 0 stores. If it is still in the current set, it is current again. The disk shows
+   its label, the bytes as they stand on it, and is taken only if they start with the label that the state holds for it,
+   state.labels[disk]: a disk that was in another cabinet meanwhile may have another. What follows the label is not
+   read, so a slot that cabinet_save wrote will do. If the disk is online already it is done, with no effect, and the
+   bytes are not looked at.
+   Refuses: 1, 8; then, of a disk that is not online, what cabinet_read_label refuses, 18 (not its bay's), 22, 25. */
+struct cabinet_answer cabinet_attach(struct cabinet_state state, size_t disk, const uint8_t *shown,
+                                     size_t shown_length);
 
 /* Stops the cabinet, if it is not stopped; 0 stores.
    Refuses: 1. */
@@ -191,7 +196,7 @@ struct cabinet_answer cabinet_save(struct cabinet_state state, uint8_t *slots, s
 
 /* The stopped cabinet with the labels that these slots hold; 0 stores. From what a state saved, with its own disks,
    blocks and online, it is the state after cabinet_power_off.
-   Refuses: 4, 5, 2, 8, then slot by slot 17, 18 (cannot be), 19, 20, 18 (not its slot's), 22. */
+   Refuses: 4, 5, 2, 8, then slot by slot 17, 18 (cannot be), 19, 20, 18 (not its bay's), 22. */
 struct cabinet_answer cabinet_assemble(size_t disks, size_t blocks, uint8_t online, const uint8_t *slots,
                                        size_t slots_length);
 

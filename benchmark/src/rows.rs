@@ -2,6 +2,7 @@
 
 use reference::plain::{self, State};
 use reference::refusal::{DONE, UNSOUND};
+use reference::slots::SLOT;
 
 /// n of every row.
 pub const DISKS: usize = 8;
@@ -54,14 +55,14 @@ pub struct Buffers {
 
 impl Buffers {
     /// An area that has been cleared by fresh and then written, a block of data, and the slots that the state is saved
-    /// in.
+    /// in: an attached disk shows its own.
     pub fn new(state: State) -> Buffers {
         let mut area = vec![0; DISKS * BLOCKS * BLOCK_SIZE];
         plain::fresh(DISKS, BLOCKS, &mut area);
         for (i, byte) in area.iter_mut().enumerate() {
             *byte = (i + i / BLOCK_SIZE) as u8;
         }
-        let mut slots = vec![0; 5 * DISKS];
+        let mut slots = vec![0; SLOT * DISKS];
         plain::save(state, &mut slots);
         let block = (0..BLOCK_SIZE as u8).map(|i| 3 * i + 1).collect();
         Buffers { area, block, slots }
@@ -100,6 +101,7 @@ pub fn rows() -> Vec<Row> {
         ),
         row("detach (lose)", Call::Detach, fresh()),
         row("attach (return)", Call::Attach, moved),
+        row("attach (return), in reach", Call::Attach, fresh()),
         row("power off (cut)", Call::PowerOff, fresh()),
         row("diagnose, a candidate", Call::Diagnose, stopped(fresh())),
         row("diagnose, out of reach", Call::Diagnose, stopped(moved)),

@@ -4,6 +4,7 @@ use crate::rows::{Buffers, Call, Row, BLOCK, BLOCKS, DISK, DISKS, STAGE, SUPPLY}
 use crate::timing::repeat;
 use differential::implementations::{from_product, to_product, told_by_product};
 use reference::plain;
+use reference::slots::SLOT;
 use std::hint::black_box;
 use std::time::Duration;
 
@@ -43,7 +44,7 @@ pub struct Side<S, A, D> {
     clean: fn(&S, u16) -> A,
     restart: fn(&S, &mut [u8], u16) -> A,
     detach: fn(&S, usize) -> A,
-    attach: fn(&S, usize) -> A,
+    attach: fn(&S, usize, &[u8]) -> A,
     power_off: fn(&S) -> A,
     diagnose: fn(&S, usize, usize) -> D,
     save: fn(&S, &mut [u8]) -> A,
@@ -63,7 +64,7 @@ pub const PROVED: Side<cabinet::State, cabinet::Answer, cabinet::Diagnosis> = Si
     clean: |state, supply| state.clean(supply),
     restart: |state, area, supply| state.restart(area, supply),
     detach: |state, disk| state.detach(disk),
-    attach: |state, disk| state.attach(disk),
+    attach: |state, disk, shown| state.attach(disk, shown),
     power_off: |state| state.power_off(),
     diagnose: |state, stage, disk| state.diagnose(stage, disk),
     save: |state, slots| state.save(slots),
@@ -83,7 +84,7 @@ pub const PLAIN: Side<plain::State, plain::Answer, plain::Diagnosis> = Side {
     clean: |&state, supply| plain::quiet(state, supply),
     restart: |&state, area, supply| plain::restart(state, area, supply),
     detach: |&state, disk| plain::lose(state, disk),
-    attach: |&state, disk| plain::give_back(state, disk),
+    attach: |&state, disk, shown| plain::give_back(state, disk, shown),
     power_off: |&state| plain::cut(state),
     diagnose: plain::diagnose,
     save: |&state, slots| plain::save(state, slots),
@@ -125,7 +126,9 @@ impl<S, A, D> Side<S, A, D> {
             Call::Clean => repeat(calls, || (side.clean)(state(), supply())),
             Call::Restart => repeat(calls, || (side.restart)(state(), black_box(area), supply())),
             Call::Detach => repeat(calls, || (side.detach)(state(), disk())),
-            Call::Attach => repeat(calls, || (side.attach)(state(), disk())),
+            Call::Attach => repeat(calls, || {
+                (side.attach)(state(), disk(), black_box(&slots[SLOT * DISK..]))
+            }),
             Call::PowerOff => repeat(calls, || (side.power_off)(state())),
             Call::Diagnose => {
                 let (time, told) = repeat(calls, || (side.diagnose)(state(), black_box(STAGE), disk()));

@@ -4,6 +4,7 @@ use crate::case::{Call, Case};
 use crate::implementations::{Implementation, Plain};
 use reference::plain::State;
 use reference::random::Random;
+use reference::shown::Shown;
 use reference::slots::SLOT;
 use reference::state::BLOCK;
 use std::ops::RangeInclusive;
@@ -38,6 +39,9 @@ pub fn call_on(random: &mut Random, call: Call, state: State, area: Vec<u8>, bad
     if call == Call::Diagnose {
         case.stage = number(random, 1..=3, bad);
     }
+    if call == Call::Return {
+        case.buffer = shown(random, &state, case.number, 6 * bad);
+    }
     if let Some(right) = buffer_length(call, &state) {
         case.buffer = bytes(random, right, bad);
     }
@@ -45,6 +49,27 @@ pub fn call_on(random: &mut Random, call: Call, state: State, area: Vec<u8>, bad
         case.supply = supply(random, &case);
     }
     case
+}
+
+/// What a returned disk shows: its stored label; or in so many of a hundred that of another bay, of another cabinet or
+/// of another time, some of these damaged in a byte; or the label with bytes behind it.
+fn shown(random: &mut Random, state: &State, disk: usize, foreign: usize) -> Vec<u8> {
+    let is_foreign = random.percent(foreign);
+    let kind = if is_foreign {
+        random.pick(&Shown::ALL[1..])
+    } else {
+        Shown::Stored
+    };
+    let mut bytes = kind.bytes(&(*state).into(), u16::try_from(disk).unwrap_or(u16::MAX));
+    if is_foreign && random.percent(30) && !bytes.is_empty() {
+        let place = random.below(bytes.len());
+        bytes[place] ^= 1 << random.below(8);
+    }
+    if random.percent(25) {
+        let behind = random.pick(&[1, SLOT, BLOCK]);
+        bytes.extend((0..behind).map(|_| random.byte()));
+    }
+    bytes
 }
 
 /// The length of the output, data or slots that the call should be given.

@@ -21,7 +21,7 @@ pub enum Call {
     Restart,
     /// Lose: the state, d.
     Lose,
-    /// Return: the state, d.
+    /// Return: the state, d; the bytes that the disk shows.
     Return,
     /// Cut: the state.
     Cut,
@@ -107,7 +107,7 @@ pub struct Case {
     pub supply: u16,
     /// The disk area.
     pub area: Vec<u8>,
-    /// The output of a read, the data of a write, the slots, or a label's bytes.
+    /// The output of a read, the data of a write, the slots, or a label's bytes: those that a returned disk shows too.
     pub buffer: Vec<u8>,
 }
 

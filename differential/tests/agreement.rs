@@ -27,7 +27,7 @@ const RESULTS: [(Call, &[u8]); 15] = [
     (Call::Quiet, &[0, 1, 6, 12, 15]),
     (Call::Restart, &[0, 1, 2, 7, 13, 14, 15]),
     (Call::Lose, &[0, 1, 8]),
-    (Call::Return, &[0, 1, 8]),
+    (Call::Return, &[0, 1, 8, 16, 17, 18, 19, 20, 22, 25]),
     (Call::Cut, &[0, 1]),
     (Call::Diagnose, &[0, 1, 7, 8, 23]),
     (Call::Save, &[0, 1, 2]),

@@ -1,5 +1,6 @@
 //! The cabinet: a state and a disk area, and the calls with their refusals in the paper's order.
 
+use crate::bay;
 use crate::call::Call;
 use crate::diagnosis;
 use crate::label::Label;
@@ -116,7 +117,7 @@ impl Cabinet {
             Call::Quiet { supply } => self.quiet(*supply),
             Call::Restart { supply } => self.restart(*supply),
             Call::Lose { disk } => self.lose(*disk),
-            Call::Return { disk } => self.give_back(*disk),
+            Call::Return { disk, shown } => self.give_back(*disk, shown),
             Call::Cut => self.cut(),
             Call::Diagnose { stage, disk } => self.diagnose(*stage, *disk),
             Call::Swap { disk, supply } => self.swap(*disk, *supply),
@@ -240,24 +241,58 @@ impl Cabinet {
 
     /// Lose: 1, 8. "Losing a lost disk" is "done, with no effect".
     pub fn lose(&mut self, disk: u16) -> Answer {
-        self.change_reach(disk, DiskSet::without)
+        self.change_reach(self.existing_disk(disk), DiskSet::without)
     }
 
-    /// Return: 1, 8. "A returned disk that is in G is current again."
-    pub fn give_back(&mut self, disk: u16) -> Answer {
-        self.change_reach(disk, DiskSet::with)
+    /// Return: 1, 8, then the refusals of what the disk shows. "A returned disk that is in G is current again."
+    pub fn give_back(&mut self, disk: u16, shown: &[u8]) -> Answer {
+        self.change_reach(self.returning_disk(disk, shown), DiskSet::with)
     }
 
     /// Lose and return change only R.
-    fn change_reach(&mut self, disk: u16, change: fn(DiskSet, u8) -> DiskSet) -> Answer {
-        let ready = refusal::first(&[
-            (UNSOUND, self.is_unsound()),
-            (NO_SUCH_DISK, disk >= self.state.disks.into()),
-        ]);
-        Answer::of(ready.map(|()| {
-            self.state.reach = change(self.state.reach, disk as u8);
+    fn change_reach(&mut self, found: Result<u8, u8>, change: fn(DiskSet, u8) -> DiskSet) -> Answer {
+        Answer::of(found.map(|disk| {
+            self.state.reach = change(self.state.reach, disk);
             Answer::DONE
         }))
+    }
+
+    /// Lose and return: 1, 8. Otherwise the disk.
+    fn existing_disk(&self, disk: u16) -> Result<u8, u8> {
+        refusal::first(&[
+            (UNSOUND, self.is_unsound()),
+            (NO_SUCH_DISK, disk >= self.state.disks.into()),
+        ])?;
+        Ok(disk as u8)
+    }
+
+    /// "Returning a disk that is already in reach still has no effect and does not look at the bytes" (request 2.6).
+    fn returning_disk(&self, disk: u16, shown: &[u8]) -> Result<u8, u8> {
+        let disk = self.existing_disk(disk)?;
+        let is_away = !self.state.reach.has(disk) || self.rules.makes(Mistake::ReturnLooksInReach);
+        let is_seen = self.state.is_stopped() || !self.rules.makes(Mistake::ReturnCheckedWhenStopped);
+        if is_away && is_seen && !self.rules.makes(Mistake::ReturnUnseen) {
+            self.shows_stored_label(disk, shown)?;
+        }
+        Ok(disk)
+    }
+
+    /// "The disk comes into reach only if they read as its stored label, the one the state holds, running or stopped.
+    /// After 8 come label reading's refusals in their order, then 18 where its number or n is not this bay's, 22, then
+    /// 25" (request 2.6).
+    fn shows_stored_label(&self, disk: u8, shown: &[u8]) -> Result<(), u8> {
+        let stored = self.state.labels[disk as usize];
+        let mut label = match bay::label(self.rules, &self.state, disk, shown) {
+            // No stored label has such a bit, so each label that has one differs.
+            Err(NO_SUCH_REGION) if self.rules.makes(Mistake::ReturnDiffersBeforeRegion) => return Err(LABEL_DIFFERS),
+            read => read?,
+        };
+        if self.rules.makes(Mistake::ReturnIgnoresDirty) {
+            label.dirty = stored.dirty;
+        }
+        let compares_bytes = self.rules.makes(Mistake::ReturnComparesBytes);
+        let bytes_differ = compares_bytes && shown != self.state.stored_label(disk.into());
+        refusal::first(&[(LABEL_DIFFERS, label != stored || bytes_differ)])
     }
 
     /// Cut: 1, and none of its own.

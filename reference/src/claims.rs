@@ -9,6 +9,7 @@ use crate::lists;
 use crate::mistakes::{Mistake, Rules};
 use crate::naming::{self, Found, STAGES};
 use crate::refusal::*;
+use crate::return_claims::ReturnClaim;
 use crate::sets::DiskSet;
 use crate::slots::{self, SLOT};
 use crate::state::{Power, State};
@@ -72,6 +73,8 @@ pub enum Claim {
     MissingTold,
     /// What request 2.5 says of a swap.
     Swap(SwapClaim),
+    /// What request 2.6 says of a return.
+    Return(ReturnClaim),
 }
 
 /// A call that was made: what was before it and what is after it.
@@ -147,6 +150,15 @@ impl Claim {
         Claim::Swap(SwapClaim::NeedsPower),
     ];
 
+    /// The claims about each return that is made.
+    const OF_RETURNS: [Claim; 5] = [
+        Claim::Return(ReturnClaim::TakesStoredOnly),
+        Claim::Return(ReturnClaim::ChangesReachAlone),
+        Claim::Return(ReturnClaim::InReachUnseen),
+        Claim::Return(ReturnClaim::TakesStored),
+        Claim::Return(ReturnClaim::OthersTold),
+    ];
+
     /// The claims about such a call.
     pub fn of_call(call: &Call) -> Vec<Claim> {
         let of_kind = match call {
@@ -156,7 +168,8 @@ impl Claim {
             Call::Restart { .. } => &Claim::OF_RESTARTS,
             Call::Diagnose { .. } => &Claim::OF_DIAGNOSES,
             Call::Swap { .. } => &Claim::OF_SWAPS,
-            Call::Quiet { .. } | Call::Lose { .. } | Call::Return { .. } | Call::Cut => &[],
+            Call::Return { .. } => &Claim::OF_RETURNS,
+            Call::Quiet { .. } | Call::Lose { .. } | Call::Cut => &[],
         };
         [of_kind, &Claim::OF_EVERY_CALL].concat()
     }
@@ -198,6 +211,7 @@ impl Claim {
                 "where a restart gives 13, a diagnosis says neither 'a candidate' nor that none proposes the set"
             }
             Claim::Swap(claim) => claim.words(),
+            Claim::Return(claim) => claim.words(),
         };
         words.to_string()
     }
@@ -248,6 +262,7 @@ impl Claim {
             }
             (Claim::MembersTold, Call::Join { disk, .. }) => result == ALREADY_MEMBER || !was_current(event, *disk),
             (Claim::Swap(claim), Call::Swap { disk, supply }) => claim.holds_of(event, *disk, *supply),
+            (Claim::Return(claim), Call::Return { disk, shown }) => claim.holds_of(event, *disk, shown),
             (claim, Call::Diagnose { stage, disk }) => {
                 let (rules, asked) = (event.after.rules, (*stage, *disk));
                 let holds = |told| claim.holds_of_diagnosis(rules, &event.before.state, asked, told);

@@ -1,8 +1,9 @@
-//! The papers' definitions once more, in other words than in `state`, `lists`, `naming` and `diagnosis`, so that the
-//! claims about the test of soundness, about moves, about the stages and about diagnoses compare two things.
+//! The papers' definitions once more, in other words than in `state`, `lists`, `naming`, `diagnosis` and `bay`, so that
+//! the claims about the test of soundness, about moves, about the stages, about diagnoses and about returns compare two
+//! things.
 
 use crate::diagnosis::Reason;
-use crate::label::Label;
+use crate::label::{self, Label};
 use crate::naming::Found;
 use crate::sets::DiskSet;
 use crate::state::{Power, State};
@@ -155,4 +156,37 @@ pub fn other_set(state: &State, disk: u32) -> DiskSet {
     let found = named(&state.labels, state.reach);
     let mut lacking = (1..=255_u8).filter(|x| x >> disk & 1 == 0).map(DiskSet);
     lacking.find(|x| found == Found::One(*x)).unwrap_or_default()
+}
+
+/// The number, n and fields of a label, as they are put down in its bytes.
+#[derive(Clone, Copy, Debug, PartialEq, Eq)]
+pub struct Written {
+    /// The disk number.
+    pub disk: u8,
+    /// n.
+    pub disks: u8,
+    /// The three fields.
+    pub label: Label,
+}
+
+/// What the label writer wrote at the start of these bytes, if it wrote that: as the map says, and the writer must
+/// write the same.
+pub fn written(bytes: &[u8]) -> Option<Written> {
+    let &[map, numbers, ..] = bytes else {
+        return None;
+    };
+    let field = |bit: u8| {
+        let lower = map & ((1 << bit) - 1);
+        let place = 2 + lower.count_ones() as usize;
+        bytes.get(place).filter(|_| map >> bit & 1 == 1).copied().unwrap_or(0)
+    };
+    let label = Label {
+        committed: DiskSet(field(0)),
+        tentative: DiskSet(field(1)),
+        dirty: field(2),
+    };
+    let (disk, disks) = (numbers % 16, numbers / 16);
+    let begins = |written: Vec<u8>| bytes.starts_with(&written);
+    let is_written = label::written(disk.into(), disks.into(), &label).is_ok_and(begins);
+    is_written.then_some(Written { disk, disks, label })
 }

@@ -1,6 +1,6 @@
 //! Every reachable state of a small cabinet, with the book: from fresh, under all ten calls, with the power cut
-//! after every store, and every disk lost and returned. Breadth first, so the first history on which a claim fails is
-//! a shortest one.
+//! after every store, and every disk lost and returned, with its stored label and with other bytes. Breadth first, so
+//! the first history on which a claim fails is a shortest one.
 
 use crate::cabinet::Answer;
 use crate::call::Call;
@@ -10,7 +10,8 @@ use crate::mistakes::Rules;
 use crate::packing::{pack, unpack};
 use crate::program::Reply;
 use crate::refusal::SUPPLY_ENDED;
-use crate::state::BLOCK;
+use crate::shown::Shown;
+use crate::state::{State, BLOCK};
 use crate::trial::Trial;
 use std::collections::HashSet;
 use std::fmt::Display;
@@ -54,7 +55,7 @@ enum Step {
     Quiet,
     Restart,
     Lose { disk: u8 },
-    Return { disk: u8 },
+    Return { disk: u8, shown: Shown },
     Cut,
     Diagnose { stage: u32, disk: u32 },
     Swap { disk: u8 },
@@ -98,10 +99,12 @@ pub fn explore(rules: Rules, book_rules: Rules, size: (u16, u16), only: Option<C
         claims.retain(|claim| only.is_none_or(|one| one == *claim));
         claims
     };
-    let with_claims = |step: Step| (step, checked(Claim::of_call(&step.call(0))));
+    let fresh = Trial::fresh(rules, book_rules, n, b).expect("n and b are in range");
+    let with_claims = |step: Step| (step, checked(Claim::of_call(&step.call(&fresh.cabinet.state, 0))));
+    let steps = steps(n as u8, b as u8).into_iter().map(with_claims).collect();
     let mut explorer = Explorer {
-        fresh: Trial::fresh(rules, book_rules, n, b).expect("n and b are in range"),
-        steps: steps(n as u8, b as u8).into_iter().map(with_claims).collect(),
+        fresh,
+        steps,
         of_states: checked(Claim::OF_STATES.to_vec()),
         seen: HashSet::new(),
         visited: Vec::new(),
@@ -169,7 +172,8 @@ impl Explorer {
             if let Some(claim) = trial.failing_in_state(&self.of_states) {
                 made.reached.push((state, Some(claim)));
             }
-            for (step, claims) in &self.steps {
+            let is_due = |(step, _): &&(Step, Vec<Claim>)| step.is_due(&trial.cabinet.state);
+            for (step, claims) in self.steps.iter().filter(is_due) {
                 self.step_at_every_supply(from, &trial, (*step, claims), &mut made);
             }
         }
@@ -180,7 +184,8 @@ impl Explorer {
     /// larger one makes no difference.
     fn step_at_every_supply(&self, from: usize, trial: &Trial, (step, claims): (Step, &[Claim]), made: &mut Made) {
         for supply in 0.. {
-            let (after, outcome) = trial.after(&step.call(supply), &GIVEN, claims);
+            let call = step.call(&trial.cabinet.state, supply);
+            let (after, outcome) = trial.after(&call, &GIVEN, claims);
             let is_new = after != *trial && !self.seen.contains(&pack(&after));
             if is_new || outcome.failed.is_some() {
                 let reached = Visited {
@@ -211,14 +216,15 @@ impl Explorer {
         let mut history = vec![line_of(&line, Reply::new(Answer::DONE, state, 0))];
         let mut failed = trial.failing_in_state(&[claim]);
         for (step, supply) in steps.into_iter().rev() {
-            let call = step.call(supply);
+            let call = step.call(&trial.cabinet.state, supply);
+            let line = call.line(&trial.cabinet.state);
             let (after, outcome) = trial.after(&call, &GIVEN, &[claim]);
             trial = after;
             failed = outcome.failed.or_else(|| trial.failing_in_state(&[claim]));
             let reply = Reply::to_call(&call, outcome.answer, &trial.cabinet.state, &outcome.output);
             history.push(match outcome.told {
-                Some(diagnosis) => line_of(&call.line(), diagnosis),
-                None => line_of(&call.line(), reply),
+                Some(diagnosis) => line_of(&line, diagnosis),
+                None => line_of(&line, reply),
             });
         }
         assert_eq!(failed, Some(claim), "the history fails when it is run anew");
@@ -232,8 +238,17 @@ fn line_of(line: &str, reply: impl Display) -> String {
 }
 
 impl Step {
-    /// The call of this step.
-    fn call(self, supply: u16) -> Call {
+    /// Whether the step is made in this state. A return does not look at what a disk in reach shows: there the stored
+    /// label and no byte at all stand for all bytes.
+    fn is_due(self, state: &State) -> bool {
+        match self {
+            Step::Return { disk, shown } => !state.reach.has(disk) || [Shown::Stored, Shown::Nothing].contains(&shown),
+            _ => true,
+        }
+    }
+
+    /// The call of this step in this state.
+    fn call(self, state: &State, supply: u16) -> Call {
         match self {
             Step::Read { block } => Call::Read {
                 block: block.into(),
@@ -251,7 +266,10 @@ impl Step {
             Step::Quiet => Call::Quiet { supply },
             Step::Restart => Call::Restart { supply },
             Step::Lose { disk } => Call::Lose { disk: disk.into() },
-            Step::Return { disk } => Call::Return { disk: disk.into() },
+            Step::Return { disk, shown } => Call::Return {
+                disk: disk.into(),
+                shown: shown.bytes(state, disk.into()),
+            },
             Step::Cut => Call::Cut,
             Step::Diagnose { stage, disk } => Call::Diagnose { stage, disk },
             Step::Swap { disk } => Call::Swap {
@@ -268,7 +286,8 @@ fn steps(n: u8, b: u8) -> Vec<Step> {
     let mut steps = vec![Step::Cut];
     for disk in 0..=n {
         steps.push(Step::Lose { disk });
-        steps.push(Step::Return { disk });
+        let shown = Shown::Stored;
+        steps.push(Step::Return { disk, shown });
     }
     for block in 0..=b {
         steps.push(Step::Write { block, byte: 1 });
@@ -283,5 +302,18 @@ fn steps(n: u8, b: u8) -> Vec<Step> {
     let none = [(1, n.into()), (4, 0)];
     let diagnose = |(stage, disk)| Step::Diagnose { stage, disk };
     steps.extend(questions(n).chain(none).map(diagnose));
+    for shown in others_shown(n) {
+        steps.extend((0..n).map(|disk| Step::Return { disk, shown: *shown }));
+    }
     steps
+}
+
+/// What a returned disk of n shows beside its stored label: of one or two, bytes of every other kind. Of three it shows
+/// more bytes and none: a return compares the label of one disk alone, and all kinds would add nothing but time.
+fn others_shown(n: u8) -> &'static [Shown] {
+    let [_stored, others @ ..] = &Shown::ALL;
+    match n {
+        ..=2 => others,
+        _ => &[Shown::StoredAndMore, Shown::Nothing],
+    }
 }

@@ -107,6 +107,13 @@ pub fn write(disk: u16, disks: u16, label: &Label, output: &mut [u8]) -> Result<
     Ok(bytes.len())
 }
 
+/// The written label by itself, or the writer's refusal. "Length 2 to 5."
+pub fn written(disk: u16, disks: u16, label: &Label) -> Result<Vec<u8>, u8> {
+    let mut output = [0; 5];
+    let length = write(disk, disks, label, &mut output)?;
+    Ok(output[..length].to_vec())
+}
+
 /// "The first byte is a bit map: bit 0 for C, bit 1 for T, bit 2 for the dirty map. The second has the disk number in
 /// its low four bits and n in its high four."
 fn bytes_of(disk: u8, disks: u8, label: &Label) -> Vec<u8> {

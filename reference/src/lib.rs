@@ -1,5 +1,5 @@
 //! An independent implementation of document 01, *The cohort-set disk cabinet*, and of document 02's requests 2.1
-//! to 2.5.
+//! to 2.6.
 //!
 //! It is written from the papers alone and shares no code, table or layout with the proved product. It is meant to be
 //! read beside the paper: each rule stands once, at a place named in the paper's terms, and the comments give the
@@ -8,6 +8,7 @@
 
 #![forbid(unsafe_code)]
 
+pub mod bay;
 pub mod book;
 pub mod cabinet;
 pub mod call;
@@ -28,8 +29,10 @@ pub mod program;
 pub mod random;
 pub mod refusal;
 pub mod refutation;
+pub mod return_claims;
 pub mod session;
 pub mod sets;
+pub mod shown;
 pub mod slots;
 pub mod small_states;
 pub mod sound_states;

@@ -7,6 +7,8 @@
 pub enum Mistake {
     /// Assembling takes every label from the first slot.
     AssembleOneSlot,
+    /// A label is held against its bay by its number alone, and n is not compared: in assembling and in a return.
+    BayIgnoresDiskCount,
     /// A write stores its blocks before it moves and sets the dirty bits.
     BlocksBeforeBits,
     /// The book counts a write when its whole list is made.
@@ -75,6 +77,18 @@ pub enum Mistake {
     RestartNamesAll,
     /// A restart never finds a set.
     RestartRefusesAlways,
+    /// Only a stopped cabinet looks at a returned disk's label; a running one takes the disk back unseen.
+    ReturnCheckedWhenStopped,
+    /// A return compares the bytes themselves with those of the stored label, so that one more makes them differ.
+    ReturnComparesBytes,
+    /// A return tests whether the label differs before whether a dirty bit names no region.
+    ReturnDiffersBeforeRegion,
+    /// A return compares only C and T with the stored label.
+    ReturnIgnoresDirty,
+    /// A return looks at the bytes though the disk is in reach.
+    ReturnLooksInReach,
+    /// A return never looks at the bytes: the rule before request 2.6.
+    ReturnUnseen,
     /// The test of soundness does not look at a member's tentative set.
     SoundIgnoresTentative,
     /// Stage 2 does not ask that some member has T = X.
@@ -107,8 +121,9 @@ pub enum Mistake {
 
 impl Mistake {
     /// Every mistake with its name.
-    pub const ALL: [(Mistake, &'static str); 49] = [
+    pub const ALL: [(Mistake, &'static str); 56] = [
         (Mistake::AssembleOneSlot, "assemble_one_slot"),
+        (Mistake::BayIgnoresDiskCount, "bay_ignores_disk_count"),
         (Mistake::BlocksBeforeBits, "blocks_before_bits"),
         (Mistake::BookCountsAtLastDisk, "book_counts_at_last_disk"),
         (Mistake::BookCountsEveryWrite, "book_counts_every_write"),
@@ -143,6 +158,12 @@ impl Mistake {
         (Mistake::RestartCopiesNothing, "restart_copies_nothing"),
         (Mistake::RestartNamesAll, "restart_names_all"),
         (Mistake::RestartRefusesAlways, "restart_refuses_always"),
+        (Mistake::ReturnCheckedWhenStopped, "return_checked_when_stopped"),
+        (Mistake::ReturnComparesBytes, "return_compares_bytes"),
+        (Mistake::ReturnDiffersBeforeRegion, "return_differs_before_region"),
+        (Mistake::ReturnIgnoresDirty, "return_ignores_dirty"),
+        (Mistake::ReturnLooksInReach, "return_looks_in_reach"),
+        (Mistake::ReturnUnseen, "return_unseen"),
         (Mistake::SoundIgnoresTentative, "sound_ignores_tentative"),
         (Mistake::StageTwoWithoutProposal, "stage_two_without_proposal"),
         (Mistake::StaleTentative, "stale_tentative"),

@@ -17,6 +17,8 @@ pub const LONGEST_LINE: usize = 32;
 pub enum Command {
     /// `f n b`.
     Fresh { n: u16, b: u16 },
+    /// `r d`.
+    Return { disk: u16 },
     /// Any other letter.
     Call(Call),
 }
@@ -31,8 +33,8 @@ pub fn parse(line: &[u8]) -> Option<Command> {
     let numbers = words.map(number).collect::<Option<Vec<u16>>>()?;
     let call = match (letter, numbers.as_slice()) {
         (b"f", &[n, b]) => return Some(Command::Fresh { n, b }),
+        (b"r", &[disk]) => return Some(Command::Return { disk }),
         (b"x", &[disk]) => Call::Lose { disk },
-        (b"r", &[disk]) => Call::Return { disk },
         (b"c", &[]) => Call::Cut,
         (b"w", &[block, value @ ..=255, supply]) => Call::Write {
             block,
@@ -125,6 +127,7 @@ impl Program {
         match parse(line) {
             None => self.reply(Answer::refused(BAD_LINE)),
             Some(Command::Fresh { n, b }) => self.fresh(n, b),
+            Some(Command::Return { disk }) => self.give_back(disk),
             Some(Command::Call(call)) => self.call(&call),
         }
     }
@@ -141,7 +144,13 @@ impl Program {
         self.reply(answer)
     }
 
-    /// Any other call.
+    /// "The program's `r d` line shows the stored label" (request 2.6).
+    fn give_back(&mut self, disk: u16) -> Reply {
+        let call = Call::unaltered_return(self.state(), disk);
+        self.call(&call)
+    }
+
+    /// Any call of the list.
     fn call(&mut self, call: &Call) -> Reply {
         let mut output = [0; BLOCK];
         let answer = self.cabinet.take(call, &mut output);

@@ -36,7 +36,7 @@ pub const SUPPLY_ENDED: u8 = 15;
 pub const LABEL_SHORT: u8 = 16;
 /// A bit from 3 up stands in the label's map.
 pub const LABEL_MAP: u8 = 17;
-/// The label's n or disk number is wrong, or not its slot's.
+/// The label's n or disk number is wrong, or not its bay's.
 pub const LABEL_NUMBERS: u8 = 18;
 /// A field that is present is 0.
 pub const FIELD_ZERO: u8 = 19;
@@ -50,6 +50,8 @@ pub const NO_SUCH_REGION: u8 = 22;
 pub const NO_SUCH_STAGE: u8 = 23;
 /// The disk to swap is in reach.
 pub const IN_REACH: u8 = 24;
+/// "A well-formed label differs from the stored one."
+pub const LABEL_DIFFERS: u8 = 25;
 
 /// "Each refusal falls in the order of its paragraph, on its condition only": the first one whose condition holds.
 pub fn first(refusals: &[(u8, bool)]) -> Result<(), u8> {

@@ -4,6 +4,7 @@ use crate::claims::Claim;
 use crate::diagnosis::{diagnose, questions};
 use crate::explorer::{explore, SIZES};
 use crate::mistakes::{Mistake, Rules};
+use crate::return_claims::ReturnClaim;
 use crate::small_states;
 use crate::sound_states;
 use crate::state::{Power, State};
@@ -47,6 +48,12 @@ pub fn claim_against(mistake: Mistake) -> Claim {
         Mistake::ReadFromLostDisk => Claim::ReadWithinReach,
         Mistake::ReadOfAnotherBlock => Claim::ReadsBook,
         Mistake::ReadStays => Claim::ReadMoves,
+        Mistake::BayIgnoresDiskCount | Mistake::ReturnDiffersBeforeRegion | Mistake::ReturnIgnoresDirty => {
+            Claim::Return(ReturnClaim::OthersTold)
+        }
+        Mistake::ReturnCheckedWhenStopped | Mistake::ReturnUnseen => Claim::Return(ReturnClaim::TakesStoredOnly),
+        Mistake::ReturnComparesBytes => Claim::Return(ReturnClaim::TakesStored),
+        Mistake::ReturnLooksInReach => Claim::Return(ReturnClaim::InReachUnseen),
         Mistake::SoundIgnoresTentative => Claim::TestAgrees,
         Mistake::StageTwoWithoutProposal => Claim::NamedAsDefined,
         Mistake::SwapComesIntoReach => Claim::Swap(SwapClaim::KeepsReach),

@@ -1,11 +1,12 @@
 //! The saved form: "each disk has a slot of 5 bytes, the rest of the slot zero".
 
+use crate::bay;
 use crate::cabinet::Answer;
-use crate::label::{self, Label};
+use crate::label;
 use crate::mistakes::{Mistake, Rules};
 use crate::refusal::{self, *};
 use crate::sets::DiskSet;
-use crate::state::{regions, Power, State};
+use crate::state::{Power, State};
 
 /// The bytes of one slot.
 pub const SLOT: usize = 5;
@@ -54,22 +55,12 @@ fn assembled(rules: Rules, n: u16, b: u16, reach: DiskSet, slots: &[u8]) -> Resu
         ..State::ZERO
     };
     for disk in 0..disks {
-        state.labels[disk as usize] = slot_label(disk, disks, blocks, slots)?;
+        let from_slot = &slots[SLOT * disk as usize..];
+        state.labels[disk as usize] = bay::label(rules, &state, disk, from_slot)?;
     }
     if rules.makes(Mistake::AssembleOneSlot) {
         let first = state.labels[0];
         state.labels[..n as usize].fill(first);
     }
     Ok(state)
-}
-
-/// One slot: "the label's own refusal; 18, its number or n is not this slot's; 22, a dirty bit names no region".
-fn slot_label(disk: u8, disks: u8, blocks: u8, slots: &[u8]) -> Result<Label, u8> {
-    let reading = label::read(&slots[SLOT * disk as usize..])?;
-    let names_no_region = (regions(blocks)..8).any(|r| reading.label.is_dirty(r));
-    refusal::first(&[
-        (LABEL_NUMBERS, (reading.disk, reading.disks) != (disk, disks)),
-        (NO_SUCH_REGION, names_no_region),
-    ])?;
-    Ok(reading.label)
 }

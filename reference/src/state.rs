@@ -1,6 +1,6 @@
 //! The cabinet's state, and when it is sound.
 
-use crate::label::Label;
+use crate::label::{self, Label};
 use crate::mistakes::{Mistake, Rules};
 use crate::sets::DiskSet;
 use std::ops::Range;
@@ -92,6 +92,14 @@ impl State {
     /// "That disk's part of the area."
     pub fn disk_range(&self, disk: u8) -> Range<usize> {
         self.block_range(disk, 0).start..self.block_range(disk, self.blocks).start
+    }
+
+    /// The bytes of disk d's stored label, "the one the state holds" (request 2.6). A disk from n up has none, nor has
+    /// one whose label the writer refuses, which is in no sound state.
+    pub fn stored_label(&self, disk: u16) -> Vec<u8> {
+        let label = self.labels.get(usize::from(disk));
+        let written = label.and_then(|label| label::written(disk, self.disks.into(), label).ok());
+        written.unwrap_or_default()
     }
 
     /// "A state is sound when": the clauses in the paper's order.

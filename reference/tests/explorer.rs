@@ -21,24 +21,24 @@ fn all_claims_hold(n: u16, b: u16, states: usize, calls: usize) {
 
 #[test]
 fn all_claims_hold_with_one_disk() {
-    all_claims_hold(1, 1, 16, 372);
-    all_claims_hold(1, 2, 32, 864);
+    all_claims_hold(1, 1, 16, 476);
+    all_claims_hold(1, 2, 32, 1_072);
 }
 
 #[test]
 fn all_claims_hold_with_two_disks() {
-    all_claims_hold(2, 1, 1_128, 34_768);
-    all_claims_hold(2, 2, 3_808, 132_032);
+    all_claims_hold(2, 1, 1_128, 49_432);
+    all_claims_hold(2, 2, 3_808, 181_536);
 }
 
 #[test]
 fn all_claims_hold_with_three_disks_of_one_block() {
-    all_claims_hold(3, 1, 415_696, 15_864_162);
+    all_claims_hold(3, 1, 415_696, 17_734_794);
 }
 
 #[test]
 fn all_claims_hold_with_three_disks_of_two_blocks() {
-    all_claims_hold(3, 2, 2_623_968, 110_648_072);
+    all_claims_hold(3, 2, 2_623_968, 122_455_928);
 }
 
 #[test]

@@ -75,8 +75,9 @@ fn the_last_line_of_the_corpus_lacks_its_line_feed() {
 }
 
 /// The mistakes that change no answer of the cabinet program on any input: they are about other things.
-const UNSEEN_BY_THE_PROGRAM: [Mistake; 26] = [
+const UNSEEN_BY_THE_PROGRAM: [Mistake; 33] = [
     Mistake::AssembleOneSlot,
+    Mistake::BayIgnoresDiskCount,
     Mistake::BookCountsAtLastDisk,
     Mistake::BookCountsEveryWrite,
     Mistake::CutWriteCountsEarly,
@@ -91,6 +92,12 @@ const UNSEEN_BY_THE_PROGRAM: [Mistake; 26] = [
     Mistake::OwnSetByStage,
     Mistake::ReadFillsThenCut,
     Mistake::ReadFromLostDisk,
+    Mistake::ReturnCheckedWhenStopped,
+    Mistake::ReturnComparesBytes,
+    Mistake::ReturnDiffersBeforeRegion,
+    Mistake::ReturnIgnoresDirty,
+    Mistake::ReturnLooksInReach,
+    Mistake::ReturnUnseen,
     Mistake::SoundIgnoresTentative,
     Mistake::SwapComesIntoReach,
     Mistake::SwapCountsBlocks,

@@ -6,8 +6,10 @@ use reference::call::Call;
 use reference::claims::Claim;
 use reference::mistakes::Rules;
 use reference::random::Random;
+use reference::shown::Shown;
 use reference::state::State;
 use reference::trial::Trial;
+use std::collections::BTreeMap;
 
 /// Histories of each cabinet, and calls of each history.
 const HISTORIES: usize = 24;
@@ -27,7 +29,7 @@ fn number(random: &mut Random, bound: u8) -> u16 {
     }
 }
 
-/// A disk to swap, most often one that can, and rather one in G.
+/// A disk to swap or to return, most often one that can, and rather one in G.
 fn lost(random: &mut Random, state: &State) -> u16 {
     let (current, others): (Vec<u8>, Vec<u8>) = state.lost().members().partition(|d| state.current().has(*d));
     let choices = if current.is_empty() { others } else { current };
@@ -44,6 +46,23 @@ fn apart(random: &mut Random, state: &State) -> u16 {
         Some(disk) if random.percent(70) => disk.into(),
         _ => number(random, state.disks),
     }
+}
+
+/// What a returned disk shows: most often its stored label, else bytes of another kind, some of them with a bit turned
+/// or with more behind.
+fn shown(random: &mut Random, state: &State, disk: u16) -> Vec<u8> {
+    if random.percent(65) {
+        return Shown::Stored.bytes(state, disk);
+    }
+    let mut bytes = random.pick(&Shown::ALL).bytes(state, disk);
+    let place = random.below(20);
+    if let Some(byte) = bytes.get_mut(place) {
+        *byte ^= 1 << random.below(8);
+    }
+    if random.percent(30) {
+        bytes.extend(data(random));
+    }
+    bytes
 }
 
 /// A supply: one that suffices, one of the size of a move or of most lists, or any.
@@ -101,9 +120,12 @@ fn random_call(random: &mut Random, state: &State) -> Call {
         5 => Call::Lose {
             disk: number(random, state.disks),
         },
-        6 => Call::Return {
-            disk: number(random, state.disks),
-        },
+        6 => {
+            let (any, lost) = (number(random, state.disks), lost(random, state));
+            let disk = random.pick(&[any, any, lost]);
+            let shown = shown(random, state, disk);
+            Call::Return { disk, shown }
+        }
         7 => Call::Cut,
         8 => Call::Diagnose {
             stage: random.below(5) as u32,
@@ -130,7 +152,12 @@ struct Tally {
     cut: [usize; 5],
     /// Reads that moved, writes, joins, diagnoses, swaps that moved and swaps that did not, that were done.
     done: [usize; 6],
+    /// Returns, by their results.
+    returns: BTreeMap<u8, usize>,
 }
+
+/// The results of a return. 22 is not among them where a disk has all eight regions.
+const OF_RETURNS: [u8; 8] = [0, 8, 16, 17, 18, 19, 20, 25];
 
 impl Tally {
     fn count(&mut self, call: &Call, answer: Answer, after: &State) {
@@ -150,13 +177,15 @@ impl Tally {
             (Call::Join { .. }, 0) => self.done[2] += 1,
             (Call::Diagnose { .. }, 0) => self.done[3] += 1,
             (Call::Swap { .. }, 0) => self.done[if answer.stores > 0 { 4 } else { 5 }] += 1,
+            (Call::Return { .. }, result) => *self.returns.entry(result).or_default() += 1,
             _ => {}
         }
     }
 
     fn is_full(&self) -> bool {
         let often = [self.finished, self.finished_with_all];
-        let counts = often.iter().chain(&self.cut).chain(&self.done);
+        let returns = OF_RETURNS.map(|result| self.returns.get(&result).copied().unwrap_or(0));
+        let counts = often.iter().chain(&self.cut).chain(&self.done).chain(&returns);
         counts.min().is_some_and(|&least| least > 100)
     }
 }
@@ -167,7 +196,7 @@ fn history(random: &mut Random, n: u16, b: u16, tally: &mut Tally) {
     let mut lines = vec![format!("f {n} {b}")];
     for _ in 0..CALLS {
         let call = random_call(random, &trial.cabinet.state);
-        lines.push(call.line());
+        lines.push(call.line(&trial.cabinet.state));
         let length = if random.percent(95) { 64 } else { random.below(129) };
         let (after, outcome) = trial.after(&call, &vec![170; length], &Claim::of_call(&call));
         trial = after;

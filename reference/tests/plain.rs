@@ -8,6 +8,7 @@ use reference::mistakes::Rules;
 use reference::plain::{self, Answer, Diagnosis, Label, Reading, State};
 use reference::random::Random;
 use reference::sets::DiskSet;
+use reference::shown::Shown;
 use reference::slots;
 use std::collections::BTreeSet;
 
@@ -17,6 +18,8 @@ const CALLS: usize = 400_000;
 const ASKED: usize = 20_000;
 /// The states in which a block is read at every supply, and those in which a disk is swapped.
 const MOVED: usize = 20_000;
+/// The states in which each disk shows bytes of every kind.
+const RETURNED: usize = 2_000;
 /// The numbers of the calls, and the results that each can give.
 const RESULTS: [&[u8]; 15] = [
     &[0, 1, 2, 3, 6, 9, 12, 15],
@@ -25,7 +28,7 @@ const RESULTS: [&[u8]; 15] = [
     &[0, 1, 6, 12, 15],
     &[0, 1, 2, 7, 13, 14, 15],
     &[0, 1, 8],
-    &[0, 1, 8],
+    &[0, 1, 8, 16, 17, 18, 19, 20, 22, 25],
     &[0, 1],
     &[0, 1, 7, 8, 23],
     &[0, 1, 2, 6, 8, 12, 15, 24],
@@ -35,6 +38,7 @@ const RESULTS: [&[u8]; 15] = [
     &[0, 16, 17, 18, 19, 20],
     &[0, 4, 8, 20, 21],
 ];
+const RETURN: usize = 6;
 const FRESH: usize = 10;
 const SAVE: usize = 11;
 const ASSEMBLE: usize = 12;
@@ -65,7 +69,7 @@ fn plain_calls_give_what_the_reference_gives() {
 fn call_on_state(random: &mut Random, kind: usize) -> u8 {
     let state = any_state(random);
     let (area, output) = any_buffers(random, &state);
-    let call = any_call(random, kind);
+    let call = any_call(random, kind, &state);
     compare(random, state, &area, &call, &output).result
 }
 
@@ -132,8 +136,8 @@ fn results_of_moves(refusals: &[u8]) -> BTreeSet<(u8, u16)> {
     done.chain(cut).chain(refused).collect()
 }
 
-/// Any call of this kind.
-fn any_call(random: &mut Random, kind: usize) -> Call {
+/// Any call of this kind, which may fit this state.
+fn any_call(random: &mut Random, kind: usize, state: &State) -> Call {
     let (number, supply) = (any_number(random), any_supply(random));
     match kind {
         0 => Call::Read { block: number, supply },
@@ -146,7 +150,10 @@ fn any_call(random: &mut Random, kind: usize) -> Call {
         3 => Call::Quiet { supply },
         4 => Call::Restart { supply },
         5 => Call::Lose { disk: number },
-        6 => Call::Return { disk: number },
+        RETURN => Call::Return {
+            disk: number,
+            shown: any_shown(random, state, number),
+        },
         7 => Call::Cut,
         8 => Call::Diagnose {
             stage: random.below(5) as u32,
@@ -154,6 +161,13 @@ fn any_call(random: &mut Random, kind: usize) -> Call {
         },
         _ => Call::Swap { disk: number, supply },
     }
+}
+
+/// What a returned disk shows: bytes of any kind, of which some have one changed.
+fn any_shown(random: &mut Random, state: &State, disk: u16) -> Vec<u8> {
+    let mut shown = random.pick(&Shown::ALL).bytes(&(*state).into(), disk);
+    may_change_a_byte(random, &mut shown);
+    shown
 }
 
 /// The same call in plain Rust.
@@ -169,7 +183,7 @@ fn make(random: &mut Random, state: State, area: &mut [u8], call: &Call, output:
         Call::Quiet { supply } => plain::quiet(state, supply),
         Call::Restart { supply } => plain::restart(state, area, supply),
         Call::Lose { disk } => plain::lose(state, wide(random, disk)),
-        Call::Return { disk } => plain::give_back(state, wide(random, disk)),
+        Call::Return { disk, ref shown } => plain::give_back(state, wide(random, disk), shown),
         Call::Cut => plain::cut(state),
         Call::Diagnose { stage, disk } => Answer {
             result: plain::diagnose(&state, stage as usize, wide(random, disk as u16)).result,
@@ -178,6 +192,33 @@ fn make(random: &mut Random, state: State, area: &mut [u8], call: &Call, output:
         },
         Call::Swap { disk, supply } => plain::swap(state, area, wide(random, disk), supply),
     }
+}
+
+/// Each disk and one that there is not, with bytes of each kind and with fewer, down to none.
+#[test]
+fn plain_returns_give_what_the_reference_gives_whatever_is_shown() {
+    let mut random = Random::new(5);
+    let mut seen = BTreeSet::new();
+    for _ in 0..RETURNED {
+        let state = any_state(&mut random);
+        for disk in 0..=state.disks.into() {
+            for kind in Shown::ALL {
+                seen.extend(returns(&mut random, state, disk, kind));
+            }
+        }
+    }
+    assert_eq!(seen, RESULTS[RETURN].iter().copied().collect());
+}
+
+/// The results of returns of a disk that shows the first of these bytes, at each number of them.
+fn returns(random: &mut Random, state: State, disk: u16, kind: Shown) -> Vec<u8> {
+    let bytes = kind.bytes(&state.into(), disk);
+    let first = |count| Call::Return {
+        disk,
+        shown: bytes[..count].to_vec(),
+    };
+    let returned = |count| compare(random, state, &[], &first(count), &[]).result;
+    (0..=bytes.len()).map(returned).collect()
 }
 
 /// Every stage and disk in random states, and numbers that are none. Every reason occurs with a set and without one; a
@@ -238,10 +279,7 @@ fn assemble(random: &mut Random) -> u8 {
     if random.percent(50) {
         plain::save(state, &mut slots);
     }
-    if random.percent(50) && !slots.is_empty() {
-        let place = random.below(slots.len());
-        slots[place] = random.byte() & random.byte();
-    }
+    may_change_a_byte(random, &mut slots);
     if random.percent(20) {
         (n, b) = (any_number(random), any_number(random));
     }
@@ -250,6 +288,14 @@ fn assemble(random: &mut Random) -> u8 {
     let given = plain::assemble(wide(random, n), wide(random, b), reach, &slots);
     check(given, expected, expected_state.into());
     given.result
+}
+
+/// Changes one of the bytes, in half of the cases.
+fn may_change_a_byte(random: &mut Random, bytes: &mut [u8]) {
+    if random.percent(50) && !bytes.is_empty() {
+        let place = random.below(bytes.len());
+        bytes[place] = random.byte() & random.byte();
+    }
 }
 
 /// Small bytes, so that maps and sets are mostly good ones.

@@ -249,7 +249,8 @@ fn after_a_cut_read_a_restart_holds_the_book() {
     for (n, reach) in live_sets() {
         let lost = DiskSet::below(n).minus(reach);
         let trial = trial_after_a_loss(n, lost);
-        let returns: Vec<Call> = lost.members().map(|disk| Call::Return { disk: disk.into() }).collect();
+        let unaltered = |disk: u8| Call::unaltered_return(&trial.cabinet.state, disk.into());
+        let returns: Vec<Call> = lost.members().map(unaltered).collect();
         for supply in 0..length(&trial.cabinet.state) {
             let found = if supply < reach.size() { 13 } else { 0 };
             assert_eq!(restarts(&trial, supply as u16, &[]), found);

@@ -257,8 +257,9 @@ impl Bay {
         Call::Swap { disk, supply }
     }
 
-    fn give_back(self) -> Call {
-        Call::Return { disk: self.disk }
+    /// The disk comes back as it is in this trial.
+    fn give_back(self, trial: &Trial) -> Call {
+        Call::unaltered_return(&trial.cabinet.state, self.disk)
     }
 
     fn join(self, supply: u16) -> Call {
@@ -294,7 +295,7 @@ fn is_whole(trial: &Trial) {
 /// A restart of a cabinet that was cut, with the disk of this bay in reach and without it, and all of the path once
 /// more. Without the disk the restart gives the expected result; where that is 13, the disk must come back.
 fn goes_on(stopped: &Trial, bay: Bay, without: u8) {
-    let with_disk = done(stopped, &[bay.give_back(), RESTART]);
+    let with_disk = done(stopped, &[bay.give_back(stopped), RESTART]);
     goes_on_running(&with_disk, bay);
     let (restarted, result) = after(stopped, &[bay.lose(), RESTART]);
     assert_eq!(result, without, "{:?}", stopped.cabinet.state);
@@ -307,11 +308,15 @@ fn goes_on(stopped: &Trial, bay: Bay, without: u8) {
 /// is.
 fn goes_on_running(restarted: &Trial, bay: Bay) {
     done(restarted, &[0, 1].map(|block| Call::Read { block, supply: AMPLE }));
-    let path = [bay.lose(), bay.swap(AMPLE), bay.give_back(), bay.join(AMPLE)];
-    is_whole(&done(restarted, &path));
+    is_made_whole(&done(restarted, &[bay.lose(), bay.swap(AMPLE)]), bay);
     if !restarted.cabinet.state.current().has(bay.disk as u8) {
-        is_whole(&done(restarted, &path[2..]));
+        is_made_whole(restarted, bay);
     }
+}
+
+/// The disk comes back and joins.
+fn is_made_whole(trial: &Trial, bay: Bay) {
+    is_whole(&done(trial, &[bay.give_back(trial), bay.join(AMPLE)]));
 }
 
 #[test]
@@ -319,8 +324,7 @@ fn the_technicians_path_ends_with_all_disks_current() {
     for (n, disk) in disks(2..=8) {
         let bay = Bay { disk: disk.into() };
         let dead = trial_after_a_death(n, bay);
-        let path = [bay.swap(AMPLE), bay.give_back(), bay.join(AMPLE)];
-        is_whole(&done(&dead, &path));
+        is_made_whole(&done(&dead, &[bay.swap(AMPLE)]), bay);
     }
 }
 
@@ -344,7 +348,7 @@ fn the_technicians_path_survives_a_cut_between_its_calls() {
     for (n, disk) in disks(2..=8) {
         let bay = Bay { disk: disk.into() };
         let swapped = done(&trial_after_a_death(n, bay), &[bay.swap(AMPLE)]);
-        let returned = done(&swapped, &[bay.give_back()]);
+        let returned = done(&swapped, &[bay.give_back(&swapped)]);
         for trial in [swapped, returned] {
             goes_on(&done(&trial, &[Call::Cut]), bay, 0);
         }
@@ -357,7 +361,8 @@ fn the_technicians_path_survives_a_cut_between_its_calls() {
 fn the_technicians_path_survives_a_cut_of_the_join() {
     for (n, disk) in disks(2..=8) {
         let bay = Bay { disk: disk.into() };
-        let returned = done(&trial_after_a_death(n, bay), &[bay.swap(AMPLE), bay.give_back()]);
+        let swapped = done(&trial_after_a_death(n, bay), &[bay.swap(AMPLE)]);
+        let returned = done(&swapped, &[bay.give_back(&swapped)]);
         let n = u16::from(n);
         let first_commit_of_another = 2 + n + if disk == 0 { 2 } else { 1 };
         for supply in 0..2 + 2 * n {
@@ -388,6 +393,6 @@ fn the_claims_about_cut_swaps_and_stopped_cabinets_can_fail() {
 #[test]
 fn the_program_has_no_letter_for_a_swap() {
     let (disk, supply) = (2, 99);
-    let line = Call::Swap { disk, supply }.line();
+    let line = Call::Swap { disk, supply }.line(&State::ZERO);
     assert_eq!((line.as_str(), parse(line.as_bytes())), ("swap 2 99", None));
 }

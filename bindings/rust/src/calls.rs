@@ -40,7 +40,7 @@ unsafe extern "C" {
     safe fn cabinet_clean(state: State, budget: u16) -> Answer;
     fn cabinet_restart(state: State, area: *mut u8, area_length: usize, budget: u16) -> Answer;
     safe fn cabinet_detach(state: State, disk: usize) -> Answer;
-    safe fn cabinet_attach(state: State, disk: usize) -> Answer;
+    fn cabinet_attach(state: State, disk: usize, shown: *const u8, shown_length: usize) -> Answer;
     safe fn cabinet_power_off(state: State) -> Answer;
     safe fn cabinet_diagnose(state: State, stage: usize, disk: usize) -> Told;
     fn cabinet_save(state: State, slots: *mut u8, slots_length: usize) -> Answer;
@@ -105,17 +105,19 @@ impl State {
     /// Puts a blank disk in the place of one that is out of reach, while the cabinet runs: its label is all zero, and
     /// so are its blocks, which counts no store. If the disk is current, the cabinet first moves to the current disks
     /// in reach; if not, there is no store to make, and a budget of 0 will do. The new disk is out of reach:
-    /// [attach](State::attach) it, then [join](State::join) it.
+    /// [attach](State::attach) it by its empty label, then [join](State::join) it.
     ///
     /// ```
-    /// # use cabinet::{area_length, State, BLOCK_SIZE};
+    /// # use cabinet::{area_length, Label, State, BLOCK_SIZE};
     /// let mut area = vec![0; area_length(3, 8).expect("3 disks of 8 blocks")];
     /// let state = State::format(3, 8, &mut area).state;
     /// let state = state.write(&mut area, 0, &[7; BLOCK_SIZE], 99).state;
-    /// // Disk 2 dies. A blank one is put in, pushed home, and gets all blocks.
+    /// // Disk 2 dies. A blank one is put in, pushed home, and gets all blocks. Its label is empty.
     /// let swapped = state.detach(2).state.swap(&mut area, 2, 99);
     /// assert_eq!((swapped.outcome(), swapped.stores, swapped.state.current), (Ok(()), 4, 0b011));
-    /// let joined = swapped.state.attach(2).state.join(&mut area, 2, 99);
+    /// let mut shown = [0; 2];
+    /// Label::default().write(&mut shown, 2, 3);
+    /// let joined = swapped.state.attach(2, &shown).state.join(&mut area, 2, 99);
     /// assert_eq!((joined.outcome(), joined.state.current), (Ok(()), 0b111));
     /// ```
     ///
@@ -155,10 +157,32 @@ impl State {
 
     /// The disk is pushed back (the paper's return). It is current again if the cabinet has not moved on without it.
     ///
-    /// Refusals: 1 not sound, 8 no such disk.
+    /// It shows its label, the bytes as they stand on it, and is taken only if they start with the label that this
+    /// state holds for it: a disk that was in another cabinet meanwhile may have another. What follows the label is not
+    /// read, so a slot that [`save`](State::save) wrote will do. Done, with no effect and without a look at the bytes,
+    /// for a disk that is in reach.
+    ///
+    /// ```
+    /// # use cabinet::{area_length, Refusal, State, SLOT_SIZE};
+    /// let mut area = vec![0; area_length(3, 8).expect("3 disks of 8 blocks")];
+    /// let state = State::format(3, 8, &mut area).state;
+    /// let mut slots = [0; 3 * SLOT_SIZE];
+    /// state.save(&mut slots).outcome()?;
+    /// let slot = |disk: usize| &slots[SLOT_SIZE * disk..];
+    ///
+    /// // Disk 2 is pulled. Disk 1 is pushed into its bay, and then disk 2 itself.
+    /// let pulled = state.detach(2).state;
+    /// assert_eq!(pulled.attach(2, slot(1)).outcome(), Err(Refusal::LabelPlace));
+    /// assert_eq!(pulled.attach(2, slot(2)).state, state);
+    /// # Ok::<(), Refusal>(())
+    /// ```
+    ///
+    /// Refusals: 1 not sound, 8 no such disk; then, of a disk that is out of reach, those of [`Label::read`], 18 the
+    /// label is another disk's, 22 a dirty bit without a region, 25 the label is not the stored one.
     #[inline]
-    pub fn attach(self, disk: usize) -> Answer {
-        cabinet_attach(self, disk)
+    pub fn attach(self, disk: usize, shown: &[u8]) -> Answer {
+        // SAFETY: as the module says.
+        unsafe { cabinet_attach(self, disk, shown.as_ptr(), shown.len()) }
     }
 
     /// The power goes (the paper's cut). Done, with no effect, for a stopped cabinet.

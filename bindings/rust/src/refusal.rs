@@ -59,13 +59,14 @@ refusals! {
     15 PowerLost "the power went before the last store"
     16 LabelCutShort "there are fewer bytes than the label has"
     17 LabelMap "a bit that names no field stands in the label's map"
-    18 LabelPlace "the label's disk number or number of disks cannot be, or is not its slot's"
+    18 LabelPlace "the label's disk number or number of disks cannot be, or is not its bay's"
     19 LabelEmptyField "a field that the label's map names is 0"
     20 LabelSet "a set of the label names a disk that is not there, or omits its own"
     21 NoRoom "the output is shorter than the label"
     22 NoSuchRegion "a dirty bit of the label names no region"
     23 NoSuchStage "the stage is not 1, 2 or 3"
     24 DiskOnline "the disk is in reach"
+    25 OtherLabel "the label that the disk shows is not the stored one"
 }
 
 /// The outcome of a result's number, of which 0 is "a done call".
@@ -100,7 +101,7 @@ mod tests {
     fn the_cases_are_the_papers() {
         let is_known = |&number: &u8| !matches!(Refusal::of(number), Refusal::Unknown(_));
         let known: Vec<u8> = (0..=255).filter(is_known).collect();
-        let papers: Vec<u8> = (1..=24).collect();
+        let papers: Vec<u8> = (1..=25).collect();
         assert_eq!(known, papers);
     }
 

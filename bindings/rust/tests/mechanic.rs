@@ -1,7 +1,10 @@
 //! The page for the mechanic: each line of its examples is what the library says.
 
 use cabinet::{area_length, Label, Refusal, State};
+use returning::returned;
 use std::path::Path;
+
+mod returning;
 
 /// The examples with the labels of their disks, C and T, and the set in reach, as document 01 has them.
 const EXAMPLES: [(&str, [(u8, u8); 3], u8); 3] = [
@@ -50,7 +53,7 @@ fn said(state: State, question: &str) -> String {
         .collect();
     match (question.split(' ').next(), numbers.as_slice()) {
         (Some("restart"), []) => restarted(state),
-        (Some("restart"), [disk]) => restarted(state.attach(*disk).state),
+        (Some("restart"), [disk]) => restarted(returned(state, *disk).state),
         (Some("stage"), [stage, disk]) => state.diagnose(*stage, *disk).to_string(),
         _ => panic!("no question: {question}"),
     }

@@ -1,6 +1,9 @@
 //! The cases of document 01 that it gives to be run: its session, H13 and H14. And a read of document 02's 2.3.
 
 use cabinet::{area_length, Answer, Refusal, State, BLOCK_SIZE};
+use returning::returned;
+
+mod returning;
 
 /// A cabinet with its area, so that one call can follow the other.
 struct Cabinet {
@@ -61,8 +64,8 @@ fn the_session_of_the_cabinet_program() {
     let cut = cabinet.state.power_off();
     assert_eq!(cabinet.follow(cut), [0, 0, 0, 3]);
     assert_eq!(cabinet.restart(99), [0, 12, 3, 3]);
-    let returned = cabinet.state.attach(2);
-    assert_eq!(cabinet.follow(returned), [0, 0, 3, 7]);
+    let back = returned(cabinet.state, 2);
+    assert_eq!(cabinet.follow(back), [0, 0, 3, 7]);
     let joined = cabinet.state.join(&mut cabinet.area, 2, 99);
     assert_eq!(cabinet.follow(joined), [0, 14, 7, 7]);
     assert_eq!(cabinet.block(0), [7; BLOCK_SIZE]);

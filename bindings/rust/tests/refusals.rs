@@ -179,9 +179,46 @@ fn restart_refuses() {
 fn detach_attach_and_power_off_refuse() {
     keeps_all(Unsound, |state, _, _| state.detach(2), unsound(), (0, 0));
     keeps_all(NoSuchDisk, |state, _, _| state.detach(2), running(), (0, 0));
-    keeps_all(Unsound, |state, _, _| state.attach(2), unsound(), (0, 0));
-    keeps_all(NoSuchDisk, |state, _, _| state.attach(usize::MAX), running(), (0, 0));
+    keeps_all(Unsound, |state, _, _| state.attach(2, &[]), unsound(), (0, 0));
+    keeps_all(
+        NoSuchDisk,
+        |state, _, _| state.attach(usize::MAX, &[]),
+        running(),
+        (0, 0),
+    );
     keeps_all(Unsound, |state, _, _| state.power_off(), unsound(), (0, 0));
+}
+
+/// Disk 1 of 2 is out of reach and shows these bytes: running or stopped, any but its own label is refused. Its disks
+/// have 9 blocks, which are 2 regions.
+#[test]
+fn attach_refuses_what_is_not_the_stored_label() {
+    let shown: [(Refusal, &[u8]); 13] = [
+        (LabelCutShort, &[]),
+        (LabelCutShort, &[1]),
+        (LabelMap, &[9, 0x21, 3]),
+        (LabelPlace, &[1, 0x91, 3]),
+        (LabelPlace, &[1, 0x22]),
+        (LabelCutShort, &[1, 0x21]),
+        (LabelEmptyField, &[1, 0x21, 0]),
+        (LabelSet, &[1, 0x21, 1]),
+        (LabelPlace, &[1, 0x20, 3]),
+        (LabelPlace, &[1, 0x31, 3]),
+        (NoSuchRegion, &[5, 0x21, 2, 4]),
+        (OtherLabel, &[5, 0x21, 3, 2]),
+        (OtherLabel, &[0, 0x21]),
+    ];
+    for state in [running(), stopped()] {
+        let away = reaching(1, state);
+        for (refusal, bytes) in shown {
+            let answer = away.attach(1, bytes);
+            assert_eq!((answer.outcome(), answer.state), (Err(refusal), away), "{bytes:?}");
+            assert_eq!(state.attach(1, bytes).state, state, "in reach, it is not looked at");
+        }
+        for bytes in [&[1, 0x21, 3][..], &[1, 0x21, 3, 0xff, 0xff]] {
+            assert_eq!(away.attach(1, bytes).state, state, "what follows the label is free");
+        }
+    }
 }
 
 /// Each number alone: 65,536 and 256 are no stages and no disks, whatever their low bytes are.

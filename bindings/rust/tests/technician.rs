@@ -1,7 +1,10 @@
 //! The page for the technician: each line of it is what the library says, and his path holds wherever the power goes.
 
-use cabinet::{area_length, Answer, Refusal, State, BLOCK_SIZE};
+use cabinet::{area_length, Answer, Label, Refusal, State, BLOCK_SIZE, SLOT_SIZE};
+use returning::returned;
 use std::path::Path;
+
+mod returning;
 
 /// The cabinet of the page.
 const DISKS: usize = 3;
@@ -34,7 +37,7 @@ impl Cabinet {
         let answer = match call {
             "detach" => state.detach(DEAD),
             "swap" => state.swap(area, DEAD, supply),
-            "attach" => state.attach(DEAD),
+            "attach" => returned(state, DEAD),
             "join" => state.join(area, DEAD, supply),
             "power off" => state.power_off(),
             "restart" => state.restart(area, supply),
@@ -154,6 +157,56 @@ fn after_a_cut_at_every_store_a_restart_gives_what_the_page_says_and_the_book_ho
     let mut cabinet = Cabinet::written();
     let stores: u16 = PATH.map(|call| cabinet.make(call, SUPPLY).stores).iter().sum();
     assert_eq!(told, stores, "the page tells of every store of the path");
+}
+
+/// The bytes that a disk with this label shows which says that it is this one, of so many.
+fn written(label: Label, disk: usize, disks: usize) -> Vec<u8> {
+    let mut bytes = vec![0; SLOT_SIZE];
+    assert_eq!(label.write(&mut bytes, disk, disks).outcome(), Ok(()));
+    bytes
+}
+
+/// What a disk in the dead one's bay shows, by the page's words. The old one was pulled from this cabinet.
+fn shown(words: &str, old: &State) -> Vec<u8> {
+    let (label, neighbour) = (old.labels[DEAD], old.labels[1]);
+    let workshop = Label {
+        committed: 1 << DEAD,
+        ..Label::default()
+    };
+    match words {
+        "the old disk" => written(label, DEAD, DISKS),
+        "the new disk, with its empty label" => written(Label::default(), DEAD, DISKS),
+        "a new disk, all zeros" => vec![0; SLOT_SIZE],
+        "a disk from another bay" => written(neighbour, 1, DISKS),
+        "the old disk, after a workshop's cabinet of 3 disks" => written(workshop, DEAD, DISKS),
+        "the old disk, after a workshop's cabinet of 8 disks" => written(workshop, DEAD, 8),
+        "no label at all: fewer than 2 bytes" => vec![0],
+        _ => panic!("no disk: {words}"),
+    }
+}
+
+/// The disk is pulled, and then swapped, or the swap is cut before its first store: what an attach gives by what the
+/// disk in the bay shows, and that a refused one changes nothing.
+#[test]
+fn each_disk_that_is_pushed_in_gets_what_the_page_says() {
+    let is_number = |cell: &String| cell.parse::<u8>().is_ok();
+    let told: Vec<Vec<String>> = rows()
+        .into_iter()
+        .filter(|row| row.len() == 3 && is_number(&row[1]))
+        .collect();
+    assert_eq!(told.len(), 7);
+    for row in told {
+        for (supply, expected) in [(SUPPLY, &row[1]), (0, &row[2])] {
+            let mut cabinet = Cabinet::written();
+            let old = cabinet.state;
+            cabinet.make_all(&PATH[..1]);
+            cabinet.make("swap", supply);
+            let answer = cabinet.state.attach(DEAD, &shown(&row[0], &old));
+            let result = answer.outcome().map_or_else(Refusal::number, |()| 0);
+            assert_eq!(result.to_string(), *expected, "{} with {supply}", row[0]);
+            assert_eq!(answer.state == cabinet.state, result != 0, "{}", row[0]);
+        }
+    }
 }
 
 #[test]

@@ -24,7 +24,7 @@ pub fn apply(call: Call, s: State, area: &mut [u8], bytes: &[u8], output: &mut [
         Call::Clean { budget } => cleaning::clean(s, budget),
         Call::Restart { budget } => recovery::restart(s, area, budget),
         Call::Detach { disk } => detach(s, disk),
-        Call::Attach { disk } => attach(s, disk),
+        Call::Attach { disk } => attach(s, disk, bytes),
         Call::PowerOff => power_off(s),
         Call::Diagnose { stage, disk } => without_stores(s, diagnose(s, stage, disk).refusal),
         Call::Swap { disk, budget } => swapping::swap(s, area, disk, budget),

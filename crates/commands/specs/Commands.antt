@@ -8,6 +8,7 @@ use Rattle.decimal.specs.Numerals.{isDigit, numeralValue}
 use Rattle.protocol.specs.declared.Call.the-variants.{Read, Write, Join, Clean, Restart, Detach, Attach, PowerOff}
 use Rattle.commands.specs.declared.Command.{Command}
 use Rattle.commands.specs.declared.Command.the-variants.{Format, Perform, Bad}
+use Rattle.commands.specs.declared.Loan.the-variants.{Block, StoredLabel}
 
 -- ---- words and numbers
 
@@ -51,24 +52,25 @@ entry letter ((x, command) ∷ later) = cond (eqb letter x) command (entry lette
 
 -- `c` cut
 abbrev withNone : List (ℕ × Command)
-withNone = (99, Perform PowerOff 0) ∷ []
+withNone = (99, Perform PowerOff (Block 0)) ∷ []
 
--- `x d` lose, `r d` return, `q p` quiet, `s p` restart
+-- `x d` lose, `r d` return, `q p` quiet, `s p` restart; "The program's `r d` line shows the stored label" (document 02,
+-- 2.6)
 abbrev withOne : ℕ → List (ℕ × Command)
 withOne a =
-    (120, Perform (Detach a) 0) ∷
-    (114, Perform (Attach a) 0) ∷
-    (113, Perform (Clean a) 0) ∷
-    (115, Perform (Restart a) 0) ∷
+    (120, Perform (Detach a) (Block 0)) ∷
+    (114, Perform (Attach a) (StoredLabel a)) ∷
+    (113, Perform (Clean a) (Block 0)) ∷
+    (115, Perform (Restart a) (Block 0)) ∷
     []
 
 -- `f n b` fresh, `j d p` join; "The program's line becomes `g k p`", a read (document 02, 2.3)
 abbrev withTwo : ℕ → ℕ → List (ℕ × Command)
-withTwo a b = (102, Format a b) ∷ (106, Perform (Join a b) 0) ∷ (103, Perform (Read a b) 0) ∷ []
+withTwo a b = (102, Format a b) ∷ (106, Perform (Join a b) (Block 0)) ∷ (103, Perform (Read a b) (Block 0)) ∷ []
 
 -- `w k v p`, "write a block of 64 bytes v (at most 255) with supply p"
 abbrev withThree : ℕ → ℕ → ℕ → List (ℕ × Command)
-withThree k v p = (119, cond (leb v 255) (Perform (Write k p) v) Bad) ∷ []
+withThree k v p = (119, cond (leb v 255) (Perform (Write k p) (Block v)) Bad) ∷ []
 
 -- the command that a letter with these numbers is
 unfoldable pub commandWith : ℕ → List ℕ → Command
@@ -96,5 +98,5 @@ commandOf line = cond (ltb lineMost (length line)) Bad (commandOfWords (words li
 -- "gives 99 and changes nothing": the number that a command gives by itself; 0 where a call's own follows
 abbrev pub commandNumber : Command → ℕ
 commandNumber (Format n b) = 0
-commandNumber (Perform call byte) = 0
+commandNumber (Perform call loan) = 0
 commandNumber Bad = 99

@@ -4,16 +4,17 @@ ghost use mathlib.Core.List.{[], _∷_};
 ghost use Rattle.commands.specs.Commands.{commandWith};
 ghost use Rattle.commands.specs.Scanning.{decoded};
 use crate::Command;
+use crate::Loan;
 use crate::scanner::Scan;
 use protocol::Call;
 
 // A call that stores no bytes of its own.
 fn plain(call: Call) -> Command
-    ensures { λ r. ⌜ r ≡ Command.Perform call 0 ⌝ }
+    ensures { λ r. ⌜ r ≡ Command.Perform call (Loan.Block 0) ⌝ }
 {
     Command::Perform {
         call: call,
-        byte: 0,
+        loan: Loan::Block(0),
     }
 }
 
@@ -31,7 +32,10 @@ fn with_one(letter: u8, a: u16) -> Command
 {
     match letter {
         b'x' => plain(Call::Detach { disk: a as usize }),
-        b'r' => plain(Call::Attach { disk: a as usize }),
+        b'r' => Command::Perform {
+            call: Call::Attach { disk: a as usize },
+            loan: Loan::StoredLabel(a as usize),
+        },
         b'q' => plain(Call::Clean { budget: a }),
         b's' => plain(Call::Restart { budget: a }),
         _ => Command::Bad,
@@ -69,7 +73,7 @@ fn with_three(letter: u8, k: u16, v: u16, p: u16) -> Command
                     block: k as usize,
                     budget: p,
                 },
-                byte: v as u8,
+                loan: Loan::Block(v as u8),
             };
         }
     }

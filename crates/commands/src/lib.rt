@@ -12,11 +12,17 @@ mod scanner;
 // "or one over 32 bytes before its line feed"
 pub const LINE_MOST: usize = 32;
 
-// A fresh, with its n and b; a call of the list, and for a write the byte that fills its block; or any other line.
-// `commandNumber` of specs/Commands.antt says which number each gives by itself.
+// What a command lends to its call: a block filled with a byte, or the label that the state holds for a disk.
+pub enum Loan {
+    Block(u8),
+    StoredLabel(usize),
+}
+
+// A fresh, with its n and b; a call of the list, and what is lent to it; or any other line. `commandNumber` of
+// specs/Commands.antt says which number each gives by itself.
 pub enum Command {
     Format { disks: u16, blocks: u16 },
-    Perform { call: Call, byte: u8 },
+    Perform { call: Call, loan: Loan },
     Bad,
 }
 

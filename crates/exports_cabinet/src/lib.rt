@@ -41,12 +41,12 @@ pub extern "C" fn cabinet_detach(state: FlatState, disk: usize) -> FlatAnswer
 }
 
 #[no_mangle]
-pub extern "C" fn cabinet_attach(state: FlatState, disk: usize) -> FlatAnswer
+pub extern "C" fn cabinet_attach(state: FlatState, disk: usize, shown: &[u8]) -> FlatAnswer
     ensures { λ r. ⌜ ((area output : List ℕ)
         → record { answer = r; area = area; output = output }
-        ≡ flatOutcome (attachOutcome (opened state) area output disk)) ⌝ }
+        ≡ flatOutcome (attachOutcome (opened state) area output disk (now (shown .entry)))) ⌝ }
 {
-    flat_answer(cabinet::attach(opened(state), disk))
+    flat_answer(cabinet::attach(opened(state), disk, shown))
 }
 
 #[no_mangle]

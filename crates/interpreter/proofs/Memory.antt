@@ -15,7 +15,9 @@ use Rattle.protocol.specs.Geometry.{areaSize, blockSize, place, block}
 use Rattle.protocol.specs.Calls.{formatOutcome}
 use Rattle.protocol.specs.History.{Cabinet, perform}
 use Rattle.protocol.proofs.Blocks.{block-length}
+use Rattle.commands.specs.declared.Loan.{Loan}
 use Rattle.interpreter.specs.Execution.{machineOf, replyTo, keptState, formatExecuted, callReply, callExecuted}
+use Rattle.interpreter.specs.Lending.{lentBytes}
 use Rattle.interpreter.proofs.FirstByte.{first-byte}
 
 module _ (size : ℕ) (memory : List ℕ) where
@@ -67,16 +69,17 @@ format-leaves n b s memory end e done =
     let part = lent (areaSize n b) memory end e in
     rw (part .1, ← part .0, ← done)
 
-pub call-leaves : (call : Call) (byte : ℕ) (s : State) (memory : List ℕ) (end : ℕ) {area output : List ℕ} {a : Answer}
+pub call-leaves : (call : Call) (loan : Loan) (s : State) (memory : List ℕ) (end : ℕ)
+    {area output : List ℕ} {a : Answer}
     → end ≡ min (areaSize (s .disks) (s .blocks)) (length memory)
     → record { answer = a; area = area; output = output }
-    ≡ perform call (replicate blockSize byte) (replicate blockSize 0) (record { state = s; area = take end memory })
+    ≡ perform call (lentBytes loan s) (replicate blockSize 0) (record { state = s; area = take end memory })
     → record {
       machine = machineOf (a .state) (area ++ drop end memory);
       reply = replyTo (a .refusal) (a .stores) (a .state) (getD output 0 0);
-    } ≡ callExecuted call byte (machineOf s memory)
+    } ≡ callExecuted call loan (machineOf s memory)
 unfolding callExecuted callReply
-call-leaves call byte s memory end e done =
+call-leaves call loan s memory end e done =
     let part = lent (areaSize (s .disks) (s .blocks)) memory end e in
     let before : Cabinet = record { state = s; area = take end memory } in
-    rw (part .1, ← part .0, ← done, ← (rw (← done) at (first-byte (replicate blockSize byte) before call)))
+    rw (part .1, ← part .0, ← done, ← (rw (← done) at (first-byte (lentBytes loan s) before call)))

@@ -16,9 +16,11 @@ use Rattle.protocol.specs.Calls.{formatOutcome}
 use Rattle.protocol.specs.History.{Step, Cabinet, outcomeOf}
 use Rattle.commands.specs.declared.Command.{Command}
 use Rattle.commands.specs.declared.Command.the-variants.{Format, Perform, Bad}
+use Rattle.commands.specs.declared.Loan.{Loan}
 use Rattle.commands.specs.Commands.{commandNumber}
 use Rattle.replies.specs.declared.Reply.{Reply}
 use Rattle.interpreter.specs.declared.Executed as code
+use Rattle.interpreter.specs.Lending.{lentBytes}
 
 -- What the program keeps from line to line: the cabinet's state, and a memory with the disk area at its front.
 pub record Machine : Type 0 where
@@ -86,9 +88,9 @@ formatExecuted n b m =
       reply = replyTo (o .answer .refusal) (o .answer .stores) kept 0;
     }
 
--- "write a block of 64 bytes v"; the output is the program's own, zeros before
-abbrev pub stepOf : Call → ℕ → Step
-stepOf call byte = record { call = call; bytes = replicate blockSize byte; output = replicate blockSize 0 }
+-- the call of the list, on a cabinet of this state; the output is the program's own, zeros before
+abbrev pub stepOf : Call → Loan → State → Step
+stepOf call loan s = record { call = call; bytes = lentBytes loan s; output = replicate blockSize 0 }
 
 -- what a call of the list yields, as a reply
 unfoldable pub callReply : Call → Outcome → Reply
@@ -96,9 +98,9 @@ callReply call o =
     let byte = firstByte call (o .answer .refusal) (getD (o .output) 0 0) in
     replyTo (o .answer .refusal) (o .answer .stores) (o .answer .state) byte
 
-unfoldable pub callExecuted : Call → ℕ → Machine → Executed
-callExecuted call byte m =
-    let o = outcomeOf (stepOf call byte) (cabinetIn m) in
+unfoldable pub callExecuted : Call → Loan → Machine → Executed
+callExecuted call loan m =
+    let o = outcomeOf (stepOf call loan (m .state)) (cabinetIn m) in
     record {
       machine = machineOf (o .answer .state) (withArea (m .state .disks) (m .state .blocks) (m .memory) (o .area));
       reply = callReply call o;
@@ -107,5 +109,5 @@ callExecuted call byte m =
 -- "Any other line [..] gives 99 and changes nothing"
 unfoldable pub executed : Command → Machine → Executed
 executed (Format n b) m = formatExecuted n b m
-executed (Perform call byte) m = callExecuted call byte m
+executed (Perform call loan) m = callExecuted call loan m
 executed Bad m = record { machine = m; reply = replyTo (commandNumber Bad) 0 (m .state) 0 }

@@ -4,9 +4,10 @@ use mathlib.Core.Path.{_≡_}
 use mathlib.Core.Bool.{Bool, true, cond}
 use mathlib.Core.List.{List, [], _∷_, _++_}
 use Prim.Native.Nat.{ℕ}
-use lib.Dec.{eqb}
+use lib.Dec.{eqb, ltb}
 use lib.ListN.{length}
 use Rattle.protocol.specs.declared.Call.{Call}
+use Rattle.protocol.specs.declared.Call.the-variants.{Attach}
 use Rattle.protocol.specs.Geometry.{mostDisks, mostBlocks, areaSize}
 use Rattle.protocol.specs.States.{zeroState}
 use Rattle.protocol.specs.Calls.{zeroArea, formatted, formatOutcome}
@@ -14,6 +15,8 @@ use Rattle.protocol.specs.History.{Step, outcomeOf}
 use Rattle.protocol.specs.Demand3.{cabinetAfter, Demand3}
 use Rattle.commands.specs.declared.Command.{Command}
 use Rattle.commands.specs.declared.Command.the-variants.{Format, Perform, Bad}
+use Rattle.commands.specs.declared.Loan.{Loan}
+use Rattle.commands.specs.declared.Loan.the-variants.{StoredLabel}
 use Rattle.replies.specs.declared.Reply.{Reply}
 use Rattle.interpreter.specs.Execution.{Machine, machineOf, cabinetIn, stepOf, replyTo, callReply, executed}
 
@@ -35,8 +38,9 @@ good n b = eqb (formatOutcome (zeroArea n b) [] n b .answer .refusal) 0
 
 abbrev pub withCommand : Command → SinceFormat → SinceFormat
 withCommand (Format n b) t = cond (good n b) (calls n b []) t
-withCommand (Perform call byte) unformatted = unformatted
-withCommand (Perform call byte) (calls n b earlier) = calls n b (earlier ++ (stepOf call byte ∷ []))
+withCommand (Perform call loan) unformatted = unformatted
+withCommand (Perform call loan) (calls n b earlier) =
+    calls n b (earlier ++ (stepOf call loan (cabinetAfter n b (zeroArea n b) earlier .state) ∷ []))
 withCommand Bad t = t
 
 unfoldable pub sinceFormat : List Command → SinceFormat → SinceFormat
@@ -51,19 +55,22 @@ Leaves unformatted m = m .state ≡ zeroState
 Leaves (calls n b earlier) m = (good n b ≡ true) × (cabinetIn m ≡ cabinetAfter n b (zeroArea n b) earlier)
 
 -- what the list yields for a call behind it, as a reply
-abbrev pub replyAfter : (n b : ℕ) → List Step → Call → ℕ → Reply
-replyAfter n b earlier call byte =
-    callReply call (outcomeOf (stepOf call byte) (cabinetAfter n b (zeroArea n b) earlier))
+abbrev pub replyAfter : (n b : ℕ) → List Step → Call → Loan → Reply
+replyAfter n b earlier call loan =
+    let c = cabinetAfter n b (zeroArea n b) earlier in callReply call (outcomeOf (stepOf call loan (c .state)) c)
 
 pub record Conforms (t : SinceFormat) (m : Machine) : Type 0 where
   pub left : Leaves t m
   -- "Before the first good `f` the state is all zero and calls give 1."
-  pub refused : t ≡ unformatted → (call : Call) (byte : ℕ)
-      → executed (Perform call byte) m .reply ≡ replyTo 1 0 zeroState 0
+  pub refused : t ≡ unformatted → (call : Call) (loan : Loan)
+      → executed (Perform call loan) m .reply ≡ replyTo 1 0 zeroState 0
   -- a call's reply is what that call of the list yields
-  pub replies : (n b : ℕ) (earlier : List Step) → t ≡ calls n b earlier → (call : Call) (byte : ℕ)
-      → executed (Perform call byte) m .reply ≡ replyAfter n b earlier call byte
-  -- of which demand 3 holds
+  pub replies : (n b : ℕ) (earlier : List Step) → t ≡ calls n b earlier → (call : Call) (loan : Loan)
+      → executed (Perform call loan) m .reply ≡ replyAfter n b earlier call loan
+  -- "The program's `r d` line shows the stored label" (document 02, 2.6), so each disk of the cabinet comes back
+  pub returns : (n b : ℕ) (earlier : List Step) → t ≡ calls n b earlier → (d : ℕ)
+      → executed (Perform (Attach d) (StoredLabel d)) m .reply .result ≡ cond (ltb d n) 0 8
+  -- of the list demand 3 holds
   pub demand-3 : (n b : ℕ) (earlier : List Step) → t ≡ calls n b earlier → Demand3 n b (zeroArea n b) earlier
   -- an `f` in range is never refused for want of memory
   pub formats : (n b : ℕ) → good n b ≡ true → executed (Format n b) m .reply ≡ replyTo 0 0 (formatted n b) 0

@@ -5,12 +5,16 @@ ghost use Rattle.protocol.specs.Geometry.{areaSize};
 ghost use Rattle.interpreter.specs.Execution.{machineOf, withMemory, replyTo, formatExecuted};
 ghost use Rattle.interpreter.specs.Execution.{callExecuted, executed, keptState};
 use commands::Command;
+use commands::Loan;
+use lending::lend;
 use protocol::Answer;
 use protocol::Call;
 use protocol::State;
 use protocol::geometry::BLOCK_SIZE;
 use refusals::numbers::BAD_LINE;
 use replies::Reply;
+
+mod lending;
 
 // What a command leaves beside the memory: the cabinet's state, and the reply.
 pub struct Executed {
@@ -60,14 +64,16 @@ fn format(disks: u16, blocks: u16, s: State, memory: &mut [u8]) -> Executed
     }
 }
 
-// A call on the cabinet. A write's block is filled with the byte; the output stays zero unless a read is done.
-fn perform(call: Call, byte: u8, s: State, memory: &mut [u8]) -> Executed
-    ensures { λ r. ⌜ withMemory r (now (memory .exit)) ≡ callExecuted call byte (machineOf s (now (memory .entry))) ⌝ }
+// A call on the cabinet. The output stays zero unless a read is done.
+fn perform(call: Call, loan: Loan, s: State, memory: &mut [u8]) -> Executed
+    ensures { λ r. ⌜ withMemory r (now (memory .exit)) ≡ callExecuted call loan (machineOf s (now (memory .entry))) ⌝ }
 {
     let end = area_end(s.disks as u16, s.blocks as u16, memory.len());
-    let bytes = [byte; BLOCK_SIZE];
+    let lent = lend(loan, s);
+    let bytes = lent.bytes;
+    let length = lent.length;
     let mut output = [0u8; BLOCK_SIZE];
-    let answer = cabinet::apply(call, s, &mut memory[..end], &bytes, &mut output);
+    let answer = cabinet::apply(call, s, &mut memory[..end], &bytes[..length], &mut output);
     let state = answer.state;
     Executed {
         state: state,
@@ -81,7 +87,7 @@ pub fn execute(command: Command, s: State, memory: &mut [u8]) -> Executed
 {
     match command {
         Command::Format { disks, blocks } => format(disks, blocks, s, memory),
-        Command::Perform { call, byte } => perform(call, byte, s, memory),
+        Command::Perform { call, loan } => perform(call, loan, s, memory),
         Command::Bad => Executed {
             state: s,
             reply: reply_to(BAD_LINE, 0, s, 0),

@@ -1,4 +1,5 @@
 -- The laws of labels, of every form.
+pub mod Comparing
 pub mod Numbers
 pub mod Accepting
 pub mod Fields

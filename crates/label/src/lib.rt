@@ -1,6 +1,7 @@
 // A disk's label and its bytes (document 01, "Label bytes").
 ghost use mathlib.Core.Path.{_≡_};
 ghost use Rattle.label.specs.Bytes.{blank};
+ghost use Rattle.label.specs.Comparing.{sameLabel};
 use regions::RegionMap;
 use sets::Mask;
 
@@ -28,6 +29,12 @@ pub fn blank() -> Label
         tentative: 0,
         dirty: 0,
     }
+}
+
+pub fn same(a: Label, b: Label) -> bool
+    ensures { λ r. ⌜ r ≡ sameLabel a b ⌝ }
+{
+    (a.committed == b.committed) & ((a.tentative == b.tentative) & (a.dirty == b.dirty))
 }
 
 // What reading yields. Refused, everything but the refusal's number is 0; done, that number is.

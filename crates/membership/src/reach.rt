@@ -1,11 +1,11 @@
-// Lose and return. Given no buffer, they leave any.
+// Lose and return. Given no disk area and no output, they leave any.
 ghost use mathlib.Core.Path.{_≡_};
 ghost use mathlib.Core.List.{List};
 ghost use Prim.Native.Nat.{ℕ, _<_};
-ghost use Rattle.protocol.specs.Outcomes.{yields, outcome, refusedOr};
-ghost use Rattle.protocol.specs.States.{withOnline};
-ghost use Rattle.protocol.specs.Calls.{reachRefusals, detachOutcome, attachOutcome};
-ghost use Rattle.membership.specs.Reach.{reach};
+ghost use Rattle.protocol.specs.Outcomes.{yields};
+ghost use Rattle.protocol.specs.Calls.{detachOutcome, attachOutcome};
+ghost use Rattle.membership.specs.Reach.{reach, reached};
+use crate::checks::attach_refusal;
 use crate::checks::reach_refusal;
 use protocol::Answer;
 use protocol::State;
@@ -27,13 +27,11 @@ fn reach(online: Mask, d: usize, attached: bool) -> Mask
     }
 }
 
-// Both calls: they differ in whether the disk is in reach afterwards.
-fn change_reach(s: State, d: usize, attached: bool) -> Answer
-    ensures { λ r. ⌜ ((area output : List ℕ) → yields r area output
-        ≡ refusedOr (reachRefusals s d) s area output
-        (outcome 0 0 (withOnline s (reach (s .online) d attached)) area output)) ⌝ }
+// Both calls, once it is known what they are refused for: they differ in whether the disk is in reach afterwards.
+fn change_reach(s: State, refusal: u8, d: usize, attached: bool) -> Answer
+    requires { do ⌜ (refusal ≡ 0 → d < (← ⟦DISKS⟧)) ⌝ }
+    ensures { λ r. ⌜ ((area output : List ℕ) → yields r area output ≡ reached s refusal d attached area output) ⌝ }
 {
-    let refusal = reach_refusal(s, d);
     if refusal == 0 {
         without_stores(with_online(s, reach(s.online, d, attached)), 0)
     } else {
@@ -45,12 +43,13 @@ fn change_reach(s: State, d: usize, attached: bool) -> Answer
 pub fn detach(s: State, d: usize) -> Answer
     ensures { λ r. ⌜ ((area output : List ℕ) → yields r area output ≡ detachOutcome s area output d) ⌝ }
 {
-    change_reach(s, d, false)
+    change_reach(s, reach_refusal(s, d), d, false)
 }
 
-// The paper's return. "A returned disk that is in G is current again."
-pub fn attach(s: State, d: usize) -> Answer
-    ensures { λ r. ⌜ ((area output : List ℕ) → yields r area output ≡ attachOutcome s area output d) ⌝ }
+// The paper's return, with the label bytes that the disk shows. "A returned disk that is in G is current again."
+pub fn attach(s: State, d: usize, shown: &[u8]) -> Answer
+    ensures { λ r. ⌜ ((area output : List ℕ)
+        → yields r area output ≡ attachOutcome s area output d (now (shown .entry))) ⌝ }
 {
-    change_reach(s, d, true)
+    change_reach(s, attach_refusal(s, d, shown), d, true)
 }

@@ -22,6 +22,7 @@ use Rattle.protocol.specs.Demand3.{CallIn, cabinetAfter, Demand3}
 use Rattle.protocol.proofs.Demand3.{demand-3}
 use Rattle.protocol.proofs.History.{ran-last}
 use Rattle.protocol.proofs.Invariant.{invariant}
+use Rattle.commands.specs.declared.Loan.the-variants.{Block}
 use Rattle.commands.specs.Commands.{commandOf}
 use Rattle.replies.specs.Replies.{replyLine}
 use Rattle.interpreter.specs.Execution.{Machine, machineOf, cabinetIn, stepOf, callReply, replyTo}
@@ -47,8 +48,9 @@ answers-append (line ∷ first) later m =
 
 -- ---- a restart behind a good `f`
 
+-- what is lent to it does not depend on the state
 abbrev restartStep : ℕ → Step
-restartStep budget = stepOf (Restart budget) 0
+restartStep budget = stepOf (Restart budget) (Block 0) zeroState
 
 module _ (budget : ℕ) (since : List Step) where
   abbrev withIt : List Step
@@ -121,11 +123,11 @@ module _ (memory : List ℕ) (size : length memory ≡ areaSize mostDisks mostBl
 
   module _ (budget : ℕ) (is : IsRestart (c .this) budget) where
     refused-reply : callsSince (c .before) ≡ unformatted → executedAt memory c .reply ≡ replyTo 1 0 zeroState 0
-    refused-reply e = rw is (before-conforms .refused e (Restart budget) 0)
+    refused-reply e = rw is (before-conforms .refused e (Restart budget) (Block 0))
 
     reply-is : (n b : ℕ) (since : List Step) → callsSince (c .before) ≡ calls n b since
         → executedAt memory c .reply ≡ callReply (Restart budget) (yielded budget since n b)
-    reply-is n b since e = rw is (before-conforms .replies n b since e (Restart budget) 0)
+    reply-is n b since e = rw is (before-conforms .replies n b since e (Restart budget) (Block 0))
 
     good-format : (n b : ℕ) (since : List Step) → callsSince (c .before) ≡ calls n b since
         → (good n b ≡ true) × (cabinetIn (behind memory (c .before)) ≡ cabinetAfter n b (zeroArea n b) since)

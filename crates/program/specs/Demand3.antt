@@ -17,6 +17,7 @@ use Rattle.protocol.specs.History.{Step}
 use Rattle.protocol.specs.Reference.{contentsAfter}
 use Rattle.commands.specs.declared.Command.{Command}
 use Rattle.commands.specs.declared.Command.the-variants.{Perform}
+use Rattle.commands.specs.declared.Loan.the-variants.{Block}
 use Rattle.commands.specs.Commands.{commandOf}
 use Rattle.replies.specs.Replies.{replyLine}
 use Rattle.interpreter.specs.Execution.{Machine, machineOf, Executed}
@@ -49,7 +50,7 @@ executedAt memory c = lineExecuted (c .this) (behind memory (c .before))
 
 -- a restart: `s p`
 abbrev pub IsRestart : List ℕ → ℕ → Type 0
-IsRestart line budget = commandOf line ≡ Perform (Restart budget) 0
+IsRestart line budget = commandOf line ≡ Perform (Restart budget) (Block 0)
 
 -- Each disk of a set holds, in the memory, the book of the calls since the last good `f`. Before it there is none.
 abbrev pub Hold : SinceFormat → ℕ → List ℕ → Type 0

@@ -55,19 +55,24 @@ module _ (d n b : ℕ) where
   unfolding bayRefusals
   slot-numbered r = cons (λ e. positive (r .refusal) (not-true _ e)) (cons (λ e. lit< tt) (cons (λ e. lit< tt) nil))
 
+  -- what is read where none applies is a label of disk d of n
+  pub bay-found : (r : Reading) → Each Unmet (bayRefusals d n b r) → r ≡ found d n (r .label) (r .length)
+  unfolding bayRefusals
+  bay-found r (cons read (cons place (cons dirty nil))) =
+      let (number, disks) = and-parts _ _ (not-false _ place) in
+      by-parts (eqb-true _ _ (not-false _ read)) (eqb-true _ _ number) (eqb-true _ _ disks)
+    where
+      by-parts : r .refusal ≡ 0 → r .number ≡ d → r .disks ≡ n → r ≡ found d n (r .label) (r .length)
+      by-parts p q t i = record { refusal = p i; number = q i; disks = t i; label = r .label; length = r .length }
+
   -- a slot to which none applies is read as a label that a sound state may have
   slot-fits : (s : List ℕ) → Each Unmet (bayRefusals d n b (reading labelForm s))
       → FitLabel n b d (reading labelForm s .label)
   unfolding bayRefusals wrongSets
   slot-fits s (cons read (cons place (cons dirty nil))) =
-      let (number, disks) = and-parts _ _ (not-false _ place) in
-      let e = is-found (reading labelForm s) (eqb-true _ _ (not-false _ read)) (eqb-true _ _ number)
-      (eqb-true _ _ disks) in
+      let e = bay-found (reading labelForm s) (cons read (cons place (cons dirty nil))) in
       let (c, t) = or-parts _ _ (read-parts labelForm s d n _ _ e .passes-all .proper .sets) in
       record { committed = right-set n d _ .0 c; tentative = right-set n d _ .0 t; dirty = not-false _ dirty }
-    where
-      is-found : (r : Reading) → r .refusal ≡ 0 → r .number ≡ d → r .disks ≡ n → r ≡ found d n (r .label) (r .length)
-      is-found r p q t i = record { refusal = p i; number = q i; disks = t i; label = r .label; length = r .length }
 
 -- ---- the state
 

@@ -3,13 +3,14 @@ use mathlib.Core.Path.{refl}
 use Rattle.sets.specs.Sets.{has, intersection, difference, singleton, subset, below, lowest}
 use Rattle.label.specs.Bytes.{mapByte, placeByte, littleEndian, encode}
 use Rattle.label.specs.Bytes.{labelLength, fromLittleEndian, fieldAt, fieldsOf}
+use Rattle.label.specs.Comparing.{sameLabel}
 use Rattle.refusals.specs.Refusals.{firstOf}
 use Rattle.label.specs.Rules.{outside, wrongSet, wrongSets}
 use Rattle.label.specs.Reading.{emptyField, readRefusals, readRefusal, judged, reading}
 use Rattle.protocol.specs.Geometry.{regionOf, regions, areaSize}
 use Rattle.protocol.specs.Loops.{ascending, forEach, allBelow, someBelow, every, some}
 use Rattle.protocol.specs.States.{source}
-use Rattle.protocol.specs.Soundness.{inRange, fitSet, fitLabel, isBlank, fitLabels, fitMember, fitPower, sound}
+use Rattle.protocol.specs.Soundness.{inRange, fitSet, fitLabel, fitLabels, fitMember, fitPower, sound}
 use Rattle.protocol.specs.Stores.{apply, applyAll}
 use Rattle.protocol.specs.Lists.{commits, resyncs, restartList}
 use Rattle.protocol.specs.Naming.{backs, proposes, candidate, candidates}
@@ -26,7 +27,7 @@ pub hand-cases : HandCasesHold
 unfolding has intersection difference singleton subset below lowest mapByte placeByte littleEndian encode labelLength
     fromLittleEndian fieldAt fieldsOf firstOf outside wrongSet wrongSets emptyField readRefusals readRefusal judged
     reading regionOf regions areaSize ascending forEach allBelow someBelow every some source inRange fitSet fitLabel
-    isBlank fitLabels fitMember fitPower sound apply applyAll commits resyncs restartList backs proposes candidate
+    sameLabel fitLabels fitMember fitPower sound apply applyAll commits resyncs restartList backs proposes candidate
     candidates foundIn orLater decide named refusedOr carryOut zeroArea foundBy restartRefusals restartOutcome labelled
     stoppedWith restarted
 hand-cases =

@@ -1,7 +1,8 @@
 -- The theorems of the protocol, for every n and b, and what they rest on.
 
--- document 01's cases, computed
+-- document 01's cases, and the history behind demand 3's premise, computed
 pub mod ByHand
+pub mod AlteredBlocks
 -- loops, lists of stores and where they are cut, blocks, labels
 pub mod Loops
 pub mod Iterations
@@ -49,6 +50,7 @@ pub mod ReadsRight
 pub mod WritesCount
 pub mod WriteBound
 pub mod MembersTold
+pub mod Returns
 pub mod SwapsBlank
 pub mod Reasons
 pub mod Diagnoses

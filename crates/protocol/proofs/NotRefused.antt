@@ -3,7 +3,7 @@ use mathlib.Core.Path.{_≡_, refl}
 use mathlib.Core.Bool.{true, false, not}
 use mathlib.Core.List.{List}
 use Prim.Native.Nat.{ℕ, _<_}
-use lib.Dec.{eqb}
+use lib.Dec.{eqb, lit<}
 use lib.ListN.{length}
 use borrow.Author.Tests.{eqb-true, ltb-true, not-false}
 use Rattle.sets.specs.Sets.{has}
@@ -18,8 +18,10 @@ use Rattle.protocol.specs.States.{isRunning, currentOf, live}
 use Rattle.protocol.specs.Soundness.{Sound, sound}
 use Rattle.protocol.specs.Naming.{Stage, Found, none, one, several, Candidate, foundNumber, theSet, foundBy}
 use Rattle.protocol.specs.Calls.{wrongArea, blockRefusals, joinRefusals, swapRefusals}
-use Rattle.protocol.specs.Calls.{cleanRefusals, restartRefusals, reachRefusals}
+use Rattle.protocol.specs.Calls.{cleanRefusals, restartRefusals, reachRefusals, attachRefusals}
 use Rattle.protocol.specs.Diagnosis.{diagnoseRefusals}
+use Rattle.protocol.proofs.Loops.{nil, cons}
+use Rattle.protocol.proofs.Refusals.{none-in-a-row}
 use Rattle.protocol.proofs.Soundness.{test-agrees}
 use Rattle.protocol.proofs.Naming.{found-names}
 use Rattle.protocol.proofs.Backing.{found-candidate}
@@ -146,7 +148,13 @@ reach-passed s d e =
     let no = none-by (reachRefusals s d) refl e in
     record { fit = sound-if s (no 1); known = ltb-true _ _ (not-false _ (no 8)) }
 
--- the same of a diagnosis
+-- the same of a return, whatever the disk shows
+pub attach-passed : (s : State) (d : ℕ) (bytes : List ℕ) → firstOf (attachRefusals s d bytes) ≡ 0 → ReachPassed s d
+unfolding attachRefusals reachRefusals
+attach-passed s d bytes e =
+    reach-passed s d (none-in-a-row _ (cons (λ z. lit< tt) (cons (λ z. lit< tt) nil)) e .0)
+
+-- and of a diagnosis
 pub diagnose-passed : (s : State) (stage d : ℕ) → firstOf (diagnoseRefusals s stage d) ≡ 0 → ReachPassed s d
 unfolding diagnoseRefusals
 diagnose-passed s stage d e =

@@ -1,12 +1,12 @@
--- Paragraphs of refusals: where none applies, and where one number is not given. Assumes nothing.
+-- Paragraphs of refusals: where none applies, one after the other, and where one number is not given. Assumes nothing.
 use mathlib.Core.Path.{_≡_, refl, sym, _∙_}
 use mathlib.Core.Logic.{_≢_}
 use mathlib.Core.Bool.{Bool, true, false, not, cond, _&&_, _||_, or-false}
-use mathlib.Core.List.{List, [], _∷_}
+use mathlib.Core.List.{List, [], _∷_, _++_}
 use Prim.Native.Nat.{ℕ, _<_}
 use native.Mathlib.Omega.{arith}
 use lib.Dec.{eqb}
-use borrow.Author.Tests.{eq-eqb, not-true}
+use borrow.Author.Tests.{eq-eqb, ne-eqb, not-true}
 use Rattle.sets.proofs.Tests.{clash, and-parts}
 use Rattle.refusals.specs.Refusals.{firstOf}
 use Rattle.protocol.proofs.Loops.{Each, nil, cons}
@@ -31,6 +31,24 @@ unfolding firstOf
 none-applies nil e = nil
 none-applies (cons {x = (number, true)} p ps) e = absurd (omega (arith, p refl))
 none-applies (cons {x = (number, false)} p ps) e = cons refl (none-applies ps e)
+
+-- ---- paragraphs in a row
+
+-- the first refusal of a paragraph, or else of the next one
+pub in-a-row : {earlier : List (ℕ × Bool)} (later : List (ℕ × Bool)) → Each Numbered earlier
+    → firstOf (earlier ++ later) ≡ cond (eqb (firstOf earlier) 0) (firstOf later) (firstOf earlier)
+unfolding firstOf
+in-a-row later nil = refl
+in-a-row later (cons {x = (number, true)} p ps) = rw (ne-eqb number 0 (λ e. omega (arith, p refl)))
+in-a-row later (cons {x = (number, false)} p ps) = in-a-row later ps
+
+-- so where none is given, none of either is
+pub none-in-a-row : {earlier : List (ℕ × Bool)} (later : List (ℕ × Bool)) → Each Numbered earlier
+    → firstOf (earlier ++ later) ≡ 0 → (firstOf earlier ≡ 0) × (firstOf later ≡ 0)
+unfolding firstOf
+none-in-a-row later nil e = (refl, e)
+none-in-a-row later (cons {x = (number, true)} p ps) e = absurd (omega (arith, p refl))
+none-in-a-row later (cons {x = (number, false)} p ps) e = none-in-a-row later ps e
 
 -- ---- a number that is not given
 

@@ -1,8 +1,8 @@
 -- From what save gives, and the state's own reach, assembling gives the state after a cut. Assumes nothing.
 use mathlib.Core.Path.{_≡_, refl, sym, ap, _∙_}
-use mathlib.Core.List.{List, append-assoc}
-use Prim.Native.Nat.{ℕ, _*_, _<_}
-use native.Mathlib.Nat.{le-refl, lt-of-lt-of-le, add-sub-of-le}
+use mathlib.Core.List.{List, _++_, append-assoc}
+use Prim.Native.Nat.{ℕ, _*_, _≤_, _<_}
+use native.Mathlib.Nat.{le-refl, le-trans, lt-of-lt-of-le, add-sub-of-le}
 use native.Mathlib.Decide.{decLt}
 use native.Mathlib.Omega.{arith}
 use lib.Pow.{pow-mono}
@@ -14,7 +14,8 @@ use Rattle.label.specs.declared.Label.{Label}
 use Rattle.label.specs.Bytes.{blank, encode}
 use Rattle.refusals.specs.Refusals.{firstOf}
 use Rattle.label.specs.Rules.{wrongSets}
-use Rattle.label.specs.Reading.{found}
+use Rattle.label.specs.Reading.{reading, found}
+use Rattle.label.specs.Writing.{writeRefusal}
 use Rattle.label.specs.Codec.{Writable, Codec}
 use Rattle.label.proofs.Accepting.{accepted}
 use Rattle.label.proofs.Codec.{narrow-codec}
@@ -24,7 +25,7 @@ use Rattle.protocol.specs.Loops.{ascending}
 use Rattle.protocol.specs.States.{labelAt}
 use Rattle.protocol.specs.Soundness.{InRange, FitLabel, Sound}
 use Rattle.protocol.specs.Outcomes.{refusedOr}
-use Rattle.protocol.specs.Bays.{bayRefusals}
+use Rattle.protocol.specs.Bays.{bayRefusals, storedLabel}
 use Rattle.protocol.specs.Saving.{slotSize, slotBytes, saveRefusals, saveOutcome, slotReading}
 use Rattle.protocol.specs.Saving.{assembleRefusals, assembled, assembleAnswer, SavedAssembles}
 use Rattle.protocol.proofs.Loops.{Each, each-ascending}
@@ -40,23 +41,45 @@ pub label-codec : Codec labelForm
 label-codec = narrow-codec
 
 module _ (n b d : ℕ) (l : Label) (range : InRange n b) (low : d < n) (fit : FitLabel n b d l) where
-  -- the label writer takes a sound state's label
-  writable : Writable labelForm d n l
-  unfolding Writable wrongSets
-  writable =
-      accepted labelForm d n l _
+  -- the label writer takes a sound state's label, given room for it
+  taken : (room : ℕ) → length (encode labelForm d n l) ≤ room → writeRefusal labelForm d n l room ≡ 0
+  unfolding wrongSets
+  taken room =
+      accepted labelForm d n l room
       (record {
         count = right-counts n b .1 range .0;
         number = lt-leb n d low;
         sets = rw (right-set n d (l .committed) .1 (fit .committed)) (right-set n d (l .tentative) .1 (fit .tentative));
       })
-      (le-refl _)
+
+  writable : Writable labelForm d n l
+  unfolding Writable
+  writable = taken _ (le-refl _)
 
   -- no cabinet has more regions than a byte has bits
   dirty-byte : l .dirty < 256
   unfolding regions
   dirty-byte =
       lt-of-lt-of-le (below-pow (l .dirty) (regions b) .0 (fit .dirty)) (pow-mono {j = mostRegions} (omega arith))
+
+-- ---- the label that a sound state holds
+
+-- the writer takes it, given a slot or more
+pub stored-taken : (s : State) → Sound s → (d : ℕ) → d < s .disks → (room : ℕ) → slotSize ≤ room
+    → writeRefusal labelForm d (s .disks) (labelAt (s .labels) d) room ≡ 0
+stored-taken s fit d l room enough =
+    taken _ _ d _ (fit .range) l (fit .labels .each d l) room
+    (le-trans (label-codec .lengths d (s .disks) (labelAt (s .labels) d) .1) enough)
+
+-- and it is read back from what is written for it, whatever follows
+pub stored-read : (s : State) → Sound s → (d : ℕ) → d < s .disks → (rest : List ℕ)
+    → reading labelForm (storedLabel s d ++ rest)
+    ≡ found d (s .disks) (labelAt (s .labels) d) (length (storedLabel s d))
+stored-read s fit d l rest =
+    let label = labelAt (s .labels) d in
+    let here = fit .labels .each d l in
+    label-codec .written-reads d (s .disks) label rest (dirty-byte _ _ d label (fit .range) l here)
+    (writable _ _ d label (fit .range) l here)
 
 -- ---- the slots of a state
 
@@ -82,16 +105,11 @@ module _ (s : State) (fit : Sound s) where
 
   -- each is read as the label that it was written for
   slot-read : (d : ℕ) → d < s .disks
-      → slotReading (slotsOf s) d
-      ≡ found d (s .disks) (labelAt (s .labels) d) (length (encode labelForm d (s .disks) (labelAt (s .labels) d)))
+      → slotReading (slotsOf s) d ≡ found d (s .disks) (labelAt (s .labels) d) (length (storedLabel s d))
   unfolding slotReading slotBytes
   slot-read d l =
-      let label = labelAt (s .labels) d in
-      let here = fit .labels .each d l in
       let (later, e) = even-iteration slotSize (slotOf s) (slot-length s) (s .disks) d l in
-      rw (e, append-assoc (encode labelForm d (s .disks) label))
-      (label-codec .written-reads d (s .disks) label _ (dirty-byte _ _ d label (fit .range) l here)
-      (writable _ _ d label (fit .range) l here))
+      rw (e, append-assoc (storedLabel s d)) (stored-read s fit d l _)
 
   -- assembling takes them
   none-refused : firstOf (assembleRefusals (s .disks) (s .blocks) (s .online) (slotsOf s)) ≡ 0

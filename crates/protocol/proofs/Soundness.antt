@@ -15,6 +15,8 @@ use Rattle.label.specs.declared.Label.{Label}
 use Rattle.label.specs.Rules.{outside}
 use Rattle.label.proofs.Accepting.{in-range as in-form}
 use Rattle.label.specs.Bytes.{blank}
+use Rattle.label.specs.Comparing.{sameLabel}
+use Rattle.label.proofs.Comparing.{compares-labels}
 use Rattle.protocol.specs.declared.Power.{Power}
 use Rattle.protocol.specs.declared.Power.the-variants.{Stopped, Running}
 use Rattle.protocol.specs.declared.State.{State}
@@ -22,7 +24,7 @@ use Rattle.protocol.specs.Geometry.{labelForm, mostDisks, wrongDiskCount
 use Rattle.protocol.specs.Loops.{allBelow}
 use Rattle.protocol.specs.States.{labelAt, currentOf, live}
 use Rattle.protocol.specs.Soundness.{Sound, InRange, FitSet, FitLabel, FitLabels}
-use Rattle.protocol.specs.Soundness.{FitPower, inRange, fitSet, fitLabel, isBlank}
+use Rattle.protocol.specs.Soundness.{FitPower, inRange, fitSet, fitLabel}
 use Rattle.protocol.specs.Soundness.{fitLabels, fitMember, fitPower, sound, TestAgrees}
 use Rattle.protocol.proofs.Loops.{all-at, all-of}
 
@@ -87,38 +89,24 @@ fit-label n b d l = (
   λ h. rw (fit-set n d (l .committed) .1 (h .committed), fit-set n d (l .tentative) .1 (h .tentative), h .dirty),
 )
 
-pub is-blank : (l : Label) → (isBlank l ≡ true) ↔ (l ≡ blank)
-unfolding isBlank
-is-blank l = (
-  λ e.
-      let (p, e1) = and-parts (eqb (l .committed) 0) (eqb (l .tentative) 0 && eqb (l .dirty) 0) e in
-      let (q, r) = and-parts (eqb (l .tentative) 0) (eqb (l .dirty) 0) e1 in
-      zeros (l .committed) (l .tentative) (l .dirty) (eqb-true _ _ p) (eqb-true _ _ q) (eqb-true _ _ r),
-  λ e. rw e,
-)
-  where
-    zeros : (c t m : ℕ) → c ≡ 0 → t ≡ 0 → m ≡ 0
-        → _≡_ {A = Label} (record { committed = c; tentative = t; dirty = m }) blank
-    zeros c t m p q r = cc
-
 -- "labels from n up are all zero"
-blank-from : (n d : ℕ) (l : Label) → ((ltb d n || isBlank l) ≡ true) ↔ (n ≤ d → l ≡ blank)
-blank-from n d l = (λ e h. past h (or-either (ltb d n) (isBlank l) e), λ h. unless h (decLt d n))
+blank-from : (n d : ℕ) (l : Label) → ((ltb d n || sameLabel l blank) ≡ true) ↔ (n ≤ d → l ≡ blank)
+blank-from n d l = (λ e h. past h (or-either (ltb d n) (sameLabel l blank) e), λ h. unless h (decLt d n))
   where
-    past : n ≤ d → (ltb d n ≡ true) ⊎ (isBlank l ≡ true) → l ≡ blank
+    past : n ≤ d → (ltb d n ≡ true) ⊎ (sameLabel l blank ≡ true) → l ≡ blank
     past h (inl e) = absurd (omega (arith, ltb-true d n e))
-    past h (inr e) = is-blank l .0 e
+    past h (inr e) = compares-labels l blank .0 e
 
-    unless : (n ≤ d → l ≡ blank) → Dec (d < n) → (ltb d n || isBlank l) ≡ true
+    unless : (n ≤ d → l ≡ blank) → Dec (d < n) → (ltb d n || sameLabel l blank) ≡ true
     unless h (yes p) = rw (lt-ltb d n p)
-    unless h (no g) = rw (is-blank l .1 (h (omega arith))) (or-true (ltb d n))
+    unless h (no g) = rw (compares-labels l blank .1 (h (omega arith))) (or-true (ltb d n))
 
 fit-labels : (n b : ℕ) (labels : List Label) → (fitLabels n b labels ≡ true) ↔ FitLabels n b labels
 unfolding fitLabels
 fit-labels n b labels = (
   λ e.
       let (p, q) = and-parts (allBelow n (λ d. fitLabel n b d (labelAt labels d)))
-      (allBelow mostDisks (λ d. ltb d n || isBlank (labelAt labels d))) e in
+      (allBelow mostDisks (λ d. ltb d n || sameLabel (labelAt labels d) blank)) e in
       record {
         each = λ d l. fit-label n b d _ .0 (all-at n _ p d l);
         rest = λ d g l. blank-from n d _ .0 (all-at mostDisks _ q d l) g;

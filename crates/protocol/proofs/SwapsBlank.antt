@@ -3,7 +3,7 @@
 use mathlib.Core.Path.{_≡_, refl, sym, ap, subst, _∙_}
 use mathlib.Core.Logic.{_≢_}
 use mathlib.Core.Bool.{true, false}
-use mathlib.Core.List.{List, []}
+use mathlib.Core.List.{List, [], append-nil}
 use Prim.Native.Nat.{ℕ, _<_}
 use native.Mathlib.Omega.{arith}
 use lib.ListN.{length}
@@ -14,17 +14,18 @@ use Rattle.sets.proofs.Tests.{Test, passes, fails, test, clash}
 use Rattle.sets.proofs.Operations.{has-union, has-intersection, has-with}
 use Rattle.sets.proofs.LowestMember.{non-empty}
 use Rattle.refusals.specs.Refusals.{firstOf}
-use Rattle.label.specs.Bytes.{blank}
+use Rattle.label.specs.Bytes.{blank, encode}
 use Rattle.protocol.specs.declared.Power.the-variants.{Running}
 use Rattle.protocol.specs.declared.State.{State}
-use Rattle.protocol.specs.Geometry.{areaSize, block}
+use Rattle.protocol.specs.Geometry.{labelForm, areaSize, block}
 use Rattle.protocol.specs.States.{labelAt, withOnline, currentOf, live, source}
 use Rattle.protocol.specs.Soundness.{Sound, Proper}
+use Rattle.protocol.specs.Bays.{storedLabel}
 use Rattle.protocol.specs.Stores.{Disks, Store, applyAll, made}
 use Rattle.protocol.specs.Lists.{move, joinList, swapList}
-use Rattle.protocol.specs.Outcomes.{Outcome, outcome, refusedOr, disksOf, cutShort, runsWith, carryOut}
+use Rattle.protocol.specs.Outcomes.{Outcome, outcome, disksOf, cutShort, runsWith, carryOut}
 use Rattle.protocol.specs.Calls.{joinRefusals, joinOutcome, swapRefusals, swapPower, swapsIn, swapOutcome}
-use Rattle.protocol.specs.Calls.{reachRefusals, attachOutcome}
+use Rattle.protocol.specs.Calls.{attachOutcome}
 use Rattle.protocol.specs.History.{Cabinet, cabinetOf}
 use Rattle.protocol.specs.Claims.{Swapping, SwapsBlank, SparesSwapped, Joinable, SwappedJoins}
 use Rattle.protocol.proofs.Blocks.{zeroed-size, zeroed-same, zeroed-other}
@@ -34,6 +35,8 @@ use Rattle.protocol.proofs.Soundness.{test-agrees}
 use Rattle.protocol.proofs.Outcomes.{refused-or, cut-or-whole, refused-cut-or-whole}
 use Rattle.protocol.proofs.NotRefused.{SwapPassed, swap-passed}
 use Rattle.protocol.proofs.StorelessCalls.{attach-preserves}
+use Rattle.protocol.proofs.Saving.{stored-read}
+use Rattle.protocol.proofs.Returns.{own-taken}
 use Rattle.protocol.proofs.Swaps.{member-list, member-power, spare-list, spare-power, swap-preserves}
 
 module _ (s : State) (area output : List ℕ) (d budget : ℕ) where
@@ -168,13 +171,17 @@ module _ (c : Cabinet) (output : List ℕ) (d budget : ℕ) where
   back = withOnline s (union (s .online) (singleton d))
 
   module _ (proper : Proper s) (size : length (c .area) ≡ areaSize (s .disks) (s .blocks)) (known : d < s .disks)
-      (g : ℕ) (runs : s .power ≡ Running g) (out : has g d ≡ false) where
-    returned : attachOutcome s (c .area) output d ≡ outcome 0 0 back (c .area) output
-    unfolding attachOutcome refusedOr reachRefusals firstOf
-    returned = rw (test-agrees s .1 (proper .fit), lt-ltb _ _ known)
+      (g : ℕ) (runs : s .power ≡ Running g) (out : has g d ≡ false) (away : has (s .online) d ≡ false)
+      (empty : labelAt (s .labels) d ≡ blank) where
+    returned : attachOutcome s (c .area) output d (encode labelForm d (s .disks) blank)
+        ≡ outcome 0 0 back (c .area) output
+    returned =
+        let read = rw (append-nil (storedLabel s d)) at (stored-read s (proper .fit) d known []) in
+        own-taken s (c .area) output d (proper .fit) known away d (s .disks) blank _ _ (rw empty at read) refl refl
+        (sym empty)
 
     back-sound : Sound back
-    back-sound = subst (λ o. Proper (o .answer .state)) returned (attach-preserves c output d .proper proper) .fit
+    back-sound = subst (λ o. Proper (o .answer .state)) returned (attach-preserves c output d _ .proper proper) .fit
 
     still-live : 0 < live s → 0 < live back
     still-live some =
@@ -231,4 +238,4 @@ swapped-joins s area output d budget later proper =
         joinable (cabinetOf (swapsIn s d output count (after s area output d budget count))) output d later p
         (rw (left s area output d budget pass count .1)
         (zeroed-size (s .disks) (s .blocks) area (pass .size) d (pass .known)))
-        (pass .known) x runs out
+        (pass .known) x runs out (pass .away) (blank-set (after s area output d budget count .labels) d)

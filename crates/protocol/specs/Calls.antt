@@ -2,18 +2,22 @@
 -- refusals stand in the order of the paper's paragraphs; 15 is in Outcomes. What a call does not take of area and
 -- output, it leaves.
 use mathlib.Core.Bool.{Bool, not, cond, _&&_}
-use mathlib.Core.List.{List, [], _∷_}
+use mathlib.Core.List.{List, [], _∷_, _++_}
 use Prim.Native.Nat.{ℕ}
 use lib.Dec.{eqb, ltb}
 use lib.ListN.{length, replicate}
 use Rattle.sets.specs.Sets.{has, union, difference, singleton, all}
 use Rattle.label.specs.declared.Label.{Label}
 use Rattle.label.specs.Bytes.{blank}
+use Rattle.label.specs.Comparing.{sameLabel}
+use Rattle.label.specs.Reading.{reading}
 use Rattle.protocol.specs.declared.Power.{Power}
 use Rattle.protocol.specs.declared.Power.the-variants.{Running}
 use Rattle.protocol.specs.declared.State.{State}
-use Rattle.protocol.specs.Geometry.{wrongDiskCount, wrongBlockCount, blockSize, areaSize, block, withZeroDisk}
-use Rattle.protocol.specs.States.{filledUp, stateOf, withOnline, poweredOff}
+use Rattle.protocol.specs.Geometry.{labelForm, wrongDiskCount, wrongBlockCount}
+use Rattle.protocol.specs.Geometry.{blockSize, areaSize, block, withZeroDisk}
+use Rattle.protocol.specs.Bays.{bayRefusals}
+use Rattle.protocol.specs.States.{labelAt, filledUp, stateOf, withOnline, poweredOff}
 use Rattle.protocol.specs.States.{zeroState, currentOf, isRunning, live, source}
 use Rattle.protocol.specs.Soundness.{sound}
 use Rattle.protocol.specs.Stores.{Disks, onArea, onLabel}
@@ -196,9 +200,28 @@ detachOutcome s area output d =
     refusedOr (reachRefusals s d) s area output
     (outcome 0 0 (withOnline s (difference (s .online) (singleton d))) area output)
 
-unfoldable pub attachOutcome : State → List ℕ → List ℕ → ℕ → Outcome
-attachOutcome s area output d =
-    refusedOr (reachRefusals s d) s area output
+-- "A return now brings the label bytes that the disk shows. The disk comes into reach only if they read as its stored
+-- label, the one the state holds, running or stopped" (document 02, 2.6): "label reading's refusals in their order,
+-- then 18 where its number or n is not this bay's, 22, then 25. New numbers: 25, a well-formed label differs from the
+-- stored one."
+unfoldable pub shownRefusals : State → ℕ → List ℕ → List (ℕ × Bool)
+shownRefusals s d bytes =
+    let shown = reading labelForm bytes in
+    let bay = bayRefusals d (s .disks) (s .blocks) shown in
+    let stored = labelAt (s .labels) d in
+    bay ++ ((25, not (sameLabel (shown .label) stored)) ∷ [])
+
+-- "Returning a disk that is already in reach still has no effect and does not look at the bytes."
+abbrev pub unseen : State → ℕ → Bool
+unseen s d = has (s .online) d
+
+-- "After 8 come label reading's refusals"
+unfoldable pub attachRefusals : State → ℕ → List ℕ → List (ℕ × Bool)
+attachRefusals s d bytes = reachRefusals s d ++ cond (unseen s d) [] (shownRefusals s d bytes)
+
+unfoldable pub attachOutcome : State → List ℕ → List ℕ → ℕ → List ℕ → Outcome
+attachOutcome s area output d bytes =
+    refusedOr (attachRefusals s d bytes) s area output
     (outcome 0 0 (withOnline s (union (s .online) (singleton d))) area output)
 
 unfoldable pub powerOffOutcome : State → List ℕ → List ℕ → Outcome

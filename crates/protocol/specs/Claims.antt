@@ -1,18 +1,22 @@
 -- What else is proved of the calls, and of every list of them, beside demand 3.
 use mathlib.Core.Path.{_≡_}
-use mathlib.Core.Logic.{_≢_}
-use mathlib.Core.Bool.{true, false, _&&_}
+use mathlib.Core.Logic.{_≢_, _⊎_}
+use mathlib.Core.Bool.{true, false, _&&_, _||_}
 use mathlib.Core.List.{List, [], _∷_, _++_}
 use Prim.Native.Nat.{ℕ, _+_, _*_, _≤_, _<_}
+use lib.Dec.{eqb}
 use lib.ListN.{length, replicate}
-use Rattle.sets.specs.Sets.{has, size}
-use Rattle.label.specs.Bytes.{blank}
+use Rattle.sets.specs.Sets.{has, below, size}
+use Rattle.label.specs.declared.Label.{Label}
+use Rattle.label.specs.Bytes.{blank, encode}
+use Rattle.label.specs.Codec.{AreBytes, Writable}
 use Rattle.protocol.specs.declared.Answer.{Answer}
 use Rattle.protocol.specs.declared.Call.the-variants.{Read, Write}
 use Rattle.protocol.specs.declared.Power.the-variants.{Running}
 use Rattle.protocol.specs.declared.State.{State}
-use Rattle.protocol.specs.Geometry.{blockSize, areaSize, block}
-use Rattle.protocol.specs.States.{labelAt, currentOf, live, source}
+use Rattle.protocol.specs.Geometry.{labelForm, blockSize, areaSize, regions, block}
+use Rattle.protocol.specs.States.{labelAt, withOnline, currentOf, live, source}
+use Rattle.protocol.specs.Bays.{storedLabel}
 use Rattle.protocol.specs.Soundness.{InRange, Sound, Proper}
 use Rattle.protocol.specs.Stores.{Store, write, applyAll, made}
 use Rattle.protocol.specs.Lists.{move, moveToLive, preparations, writeList, joinList}
@@ -134,11 +138,12 @@ SparesSwapped =
     → s .power ≡ Running g → d < s .disks → has (s .online) d ≡ false → has g d ≡ false
     → swapOutcome s area output d budget .answer .refusal ≡ 0
 
--- What the technician relies on, of a cabinet that a done swap of disk d left: the disk can be returned, and where some
--- current disk is in reach it can then join, and is current.
+-- What the technician relies on, of a cabinet that a done swap of disk d left: the disk can be returned, by its empty
+-- label, and where some current disk is in reach it can then join, and is current.
 pub record Joinable (c : Cabinet) (output : List ℕ) (d budget : ℕ) : Type 0 where
   pub back : State
-  pub returns : attachOutcome (c .state) (c .area) output d ≡ outcome 0 0 back (c .area) output
+  pub returns : attachOutcome (c .state) (c .area) output d (encode labelForm d (c .state .disks) blank)
+      ≡ outcome 0 0 back (c .area) output
   pub joins : 0 < live (c .state) → length (joinList back d) ≤ budget
       → (joinOutcome back (c .area) output d budget .answer .refusal ≡ 0)
       × (g : ℕ) × (joinOutcome back (c .area) output d budget .answer .state .power ≡ Running g) × (has g d ≡ true)
@@ -148,6 +153,57 @@ SwappedJoins =
     (s : State) (area output : List ℕ) (d budget later : ℕ) → Proper s
     → swapOutcome s area output d budget .answer .refusal ≡ 0
     → Joinable (cabinetOf (swapOutcome s area output d budget)) output d later
+
+-- ---- returns
+
+-- "A pulled disk has been in another cabinet" (document 02, 2.6): what a return of disk d that shows these bytes owes,
+-- of all that it yields.
+module _ (s : State) (area output : List ℕ) (d : ℕ) (bytes : List ℕ) where
+  pub record Returning (o : Outcome) : Type 0 where
+    -- "The disk comes into reach only if they read as its stored label": done, a disk that was out of reach showed
+    -- exactly the label that the state holds, and anything after it
+    pub shown : o .answer .refusal ≡ 0 → has (s .online) d ≡ false → AreBytes bytes
+        → (rest : List ℕ) × (bytes ≡ storedLabel s d ++ rest)
+    -- so what another cabinet wrote on it, any label but the stored one, gives 25 or an earlier number
+    pub foreign : has (s .online) d ≡ false → (e n : ℕ) (l : Label) (rest : List ℕ)
+        → Writable labelForm e n l → l .dirty < 256 → bytes ≡ encode labelForm e n l ++ rest
+        → (e ≡ d → n ≡ s .disks → l ≢ labelAt (s .labels) d) → o .answer .refusal ≢ 0
+    -- done, R has the disk too, and nothing else is changed
+    pub back : o .answer .refusal ≡ 0
+        → (online : ℕ) × (o ≡ outcome 0 0 (withOnline s online) area output)
+        × ((e : ℕ) → has online e ≡ (has (s .online) e || eqb e d))
+    -- and else nothing is
+    pub unchanged : o .answer .refusal ≢ 0 → o ≡ outcome (o .answer .refusal) 0 s area output
+
+abbrev pub ReturnsShown : Type 0
+ReturnsShown =
+    (s : State) (area output : List ℕ) (d : ℕ) (bytes : List ℕ)
+    → Returning s area output d bytes (attachOutcome s area output d bytes)
+
+-- What a disk d out of reach is told that shows the label l of disk e of n, as some cabinet wrote it.
+module _ (s : State) (area output : List ℕ) (d e n : ℕ) (l : Label) where
+  pub record Judging (o : Outcome) : Type 0 where
+    -- the stored label is taken
+    pub own : e ≡ d → n ≡ s .disks → l ≡ labelAt (s .labels) d → o .answer .refusal ≡ 0
+    -- "18 where its number or n is not this bay's, 22, then 25"
+    pub place : (e ≢ d) ⊎ (n ≢ s .disks) → o ≡ outcome 18 0 s area output
+    pub region : e ≡ d → n ≡ s .disks → below (l .dirty) (regions (s .blocks)) ≡ false
+        → o ≡ outcome 22 0 s area output
+    pub differs : e ≡ d → n ≡ s .disks → below (l .dirty) (regions (s .blocks)) ≡ true
+        → l ≢ labelAt (s .labels) d → o ≡ outcome 25 0 s area output
+
+-- whatever stands behind the label
+abbrev pub LabelsJudged : Type 0
+LabelsJudged =
+    (s : State) (area output : List ℕ) (d e n : ℕ) (l : Label) (rest : List ℕ)
+    → Sound s → d < s .disks → has (s .online) d ≡ false → Writable labelForm e n l → l .dirty < 256
+    → Judging s area output d e n l (attachOutcome s area output d (encode labelForm e n l ++ rest))
+
+-- "Returning a disk that is already in reach still has no effect and does not look at the bytes."
+abbrev pub InReachUnseen : Type 0
+InReachUnseen =
+    (s : State) (area output : List ℕ) (d : ℕ) (bytes : List ℕ) → Sound s → d < s .disks → has (s .online) d ≡ true
+    → attachOutcome s area output d bytes ≡ outcome 0 0 s area output
 
 -- ---- reads
 

@@ -1,4 +1,12 @@
 -- Demand 3, "a single claim about the list": document 01, "The list and the book".
+--
+-- What it rests on: the list starts fresh, and "Each call gets the state and the disk area that the last one returned
+-- or left; nobody else writes them meanwhile". Of a disk that was away this says that its blocks come back unaltered,
+-- and no longer anything of its label: a return is shown any bytes, and takes the disk only if they read as the label
+-- that the state holds ("The cut rule no longer needs the premise that labels come back unaltered; blocks still must",
+-- document 02, 2.6). That of the blocks cannot go, since no call can tell that a block was altered: a fresh cabinet of
+-- 2 disks, disk 1 is lost, somebody writes its block, it returns and shows its own label, the power is cut, and a
+-- restart names both disks (AlteredBlocks.antt).
 use mathlib.Core.Path.{_≡_}
 use mathlib.Core.Logic.{_≢_}
 use mathlib.Core.Bool.{true}

@@ -10,7 +10,8 @@ use Rattle.protocol.specs.Calls.{readOutcome, writeOutcome, joinOutcome,
 use Rattle.protocol.specs.Calls.{restartOutcome, detachOutcome, attachOutcome, powerOffOutcome, swapOutcome}
 use Rattle.protocol.specs.Diagnosis.{diagnoseOutcome}
 
--- A call of the list, "with whatever numbers and with data and output of its own".
+-- A call of the list, "with whatever numbers and with data and output of its own". The bytes are a write's data, and of
+-- a return "the label bytes that the disk shows" (document 02, 2.6): any bytes, whatever became of the disk meanwhile.
 pub record Step : Type 0 where
   pub call : Call
   pub bytes : List ℕ
@@ -28,7 +29,7 @@ perform (Join d budget) bytes output c = joinOutcome (c .state) (c .area) output
 perform (Clean budget) bytes output c = cleanOutcome (c .state) (c .area) output budget
 perform (Restart budget) bytes output c = restartOutcome (c .state) (c .area) output budget
 perform (Detach d) bytes output c = detachOutcome (c .state) (c .area) output d
-perform (Attach d) bytes output c = attachOutcome (c .state) (c .area) output d
+perform (Attach d) bytes output c = attachOutcome (c .state) (c .area) output d bytes
 perform PowerOff bytes output c = powerOffOutcome (c .state) (c .area) output
 perform (Diagnose stage d) bytes output c = diagnoseOutcome (c .state) (c .area) output stage d
 perform (Swap d budget) bytes output c = swapOutcome (c .state) (c .area) output d budget

@@ -8,12 +8,13 @@ pub mod Lists
 pub mod Naming
 pub mod Finder
 pub mod Outcomes
+pub mod Bays
 pub mod Calls
 pub mod Diagnosis
-pub mod Bays
 pub mod Saving
 pub mod History
 pub mod Reference
 pub mod Demand3
+pub mod AlteredBlocks
 pub mod Claims
 pub mod ByHand

@@ -9,6 +9,7 @@ use lib.ListN.{length}
 use Rattle.sets.specs.Sets.{has, below}
 use Rattle.label.specs.declared.Label.{Label}
 use Rattle.label.specs.Bytes.{blank}
+use Rattle.label.specs.Comparing.{sameLabel}
 use Rattle.protocol.specs.declared.Power.{Power}
 use Rattle.protocol.specs.declared.Power.the-variants.{Stopped, Running}
 use Rattle.protocol.specs.declared.State.{State}
@@ -70,13 +71,10 @@ fitSet n d set = below set n && (eqb set 0 || has set d)
 unfoldable pub fitLabel : ℕ → ℕ → ℕ → Label → Bool
 fitLabel n b d l = fitSet n d (l .committed) && (fitSet n d (l .tentative) && below (l .dirty) (regions b))
 
-unfoldable pub isBlank : Label → Bool
-isBlank l = eqb (l .committed) 0 && (eqb (l .tentative) 0 && eqb (l .dirty) 0)
-
 unfoldable pub fitLabels : ℕ → ℕ → List Label → Bool
 fitLabels n b labels =
     allBelow n (λ d. fitLabel n b d (labelAt labels d))
-    && allBelow mostDisks (λ d. ltb d n || isBlank (labelAt labels d))
+    && allBelow mostDisks (λ d. ltb d n || sameLabel (labelAt labels d) blank)
 
 unfoldable pub fitMember : List Label → ℕ → ℕ → Bool
 fitMember labels g d = eqb (committedAt labels d) g && eqb (tentativeAt labels d) 0

@@ -50,8 +50,8 @@ pub struct Diagnosis {
 }
 
 // The calls of document 01's list, "The list and the book", and those that document 02 adds to it. Numbers are wider
-// than the state's own, so that 256 is no disk 0; the budget is the paper's supply, 0 to 65,535. A write's data and a
-// read's output are lent beside the call.
+// than the state's own, so that 256 is no disk 0; the budget is the paper's supply, 0 to 65,535. A write's data, a
+// read's output and the label that a returned disk shows are lent beside the call.
 pub enum Call {
     Read { block: usize, budget: u16 },
     Write { block: usize, budget: u16 },

@@ -69,5 +69,8 @@ pub const NO_SUCH_STAGE: u8 = 23;
 // The disk is in reach.
 pub const DISK_ONLINE: u8 = 24;
 
+// A well-formed label differs from the stored one.
+pub const OTHER_LABEL: u8 = 25;
+
 // A line of the cabinet program that is no command.
 pub const BAD_LINE: u8 = 99;

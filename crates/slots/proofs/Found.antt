@@ -30,9 +30,9 @@ use Rattle.protocol.specs.Saving.{slotSize, slotReading, assembleRefusals, asse
 use Rattle.protocol.specs.Bays.{bayRefusals}
 use Rattle.protocol.proofs.Loops.{nil, cons, each-ascending}
 use Rattle.protocol.proofs.Iterations.{listed-length}
+use Rattle.protocol.proofs.Refusals.{in-a-row}
 use Rattle.protocol.proofs.Assembling.{slot-numbered}
 use Rattle.slots.specs.Below.{refusalsBelow, labelsBelow}
-use Rattle.slots.proofs.Refusing.{in-a-row}
 
 -- ---- one slot more
 

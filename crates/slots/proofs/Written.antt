@@ -1,32 +1,28 @@
 -- Slots that are written one after the other. Assumes nothing.
 use mathlib.Core.Path.{_≡_, refl, sym, _∙_}
 use mathlib.Core.List.{List, _++_, append-nil, append-assoc}
-use Prim.Native.Nat.{ℕ, _+_, _-_, _*_, _≤_, _<_}
+use Prim.Native.Nat.{ℕ, _+_, _-_, _*_, _≤_}
 use native.Mathlib.Nat.{zero-add, mul-suc, add-sub-cancel-left}
 use native.Mathlib.Numerals.{add-one}
 use lib.ListN.{length, drop, replicate, length-drop}
 use lib.Seq.{take-length, take-append-seam, take-at, drop-at, drop-drop, drop-length}
-use borrow.Author.Tests.{eqb-true, lt-leb, not-false}
+use borrow.Author.Tests.{eqb-true, not-false}
 use borrow.Rule.Slice.PartMut.{midOf, putMid}
 use Rattle.label.specs.declared.Label.{Label}
 use Rattle.label.specs.declared.Written.{Written}
 use Rattle.label.specs.Bytes.{encode}
 use Rattle.refusals.specs.Refusals.{firstOf}
-use Rattle.label.specs.Rules.{wrongSets}
 use Rattle.buffers.specs.Buffers.{splice}
 use Rattle.label.specs.Writing.{writeRefusal, written, writtenBytes}
 use Rattle.refusals.proofs.Order.{none-by}
-use Rattle.label.proofs.Accepting.{accepted}
 use Rattle.protocol.specs.declared.State.{State}
 use Rattle.protocol.specs.Geometry.{labelForm}
 use Rattle.protocol.specs.Loops.{ascending}
-use Rattle.protocol.specs.States.{labelAt}
 use Rattle.protocol.specs.Soundness.{Sound}
 use Rattle.protocol.specs.Saving.{slotSize, slotBytes, saveRefusals}
-use Rattle.protocol.proofs.Soundness.{right-counts, test-agrees}
+use Rattle.protocol.proofs.Soundness.{test-agrees}
 use Rattle.protocol.proofs.Iterations.{even-length}
 use Rattle.protocol.proofs.Saving.{label-codec, slotOf, slot-length}
-use Rattle.protocol.proofs.Assembling.{right-set}
 
 -- ---- one slot
 
@@ -65,23 +61,6 @@ module _ (d n : ℕ) (l : Label) where
         let bytes = encode labelForm d n l in
         let fits : length bytes ≤ length slot = rw size (label-codec .lengths d n l .1) in
         rw (zeros, label-length, h, size, none, zero-add) (rw size at (rest-zero bytes slot fits))
-
--- the writer takes a sound state's labels
-pub label-taken : (s : State) (d : ℕ) → Sound s → d < s .disks
-    → writeRefusal labelForm d (s .disks) (labelAt (s .labels) d) slotSize ≡ 0
-unfolding wrongSets
-label-taken s d fit h =
-    let l = labelAt (s .labels) d in
-    let here = fit .labels .each d h in
-    accepted labelForm d (s .disks) l slotSize
-    (record {
-      count = right-counts (s .disks) (s .blocks) .1 (fit .range) .0;
-      number = lt-leb (s .disks) d h;
-      sets =
-          rw (right-set (s .disks) d (l .committed) .1 (here .committed))
-          (right-set (s .disks) d (l .tentative) .1 (here .tentative));
-    })
-    (label-codec .lengths d (s .disks) l .1)
 
 -- ---- one slot after the other
 

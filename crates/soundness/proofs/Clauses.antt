@@ -14,6 +14,7 @@ use Rattle.sets.proofs.Membership.{has-empty}
 use Rattle.sets.proofs.Bounds.{below-empty, below-union, below-members}
 use Rattle.label.specs.declared.Label.{Label}
 use Rattle.label.specs.Bytes.{blank}
+use Rattle.label.proofs.Comparing.{compares-labels}
 use Rattle.protocol.specs.declared.Power.{Power}
 use Rattle.protocol.specs.declared.Power.the-variants.{Stopped, Running}
 use Rattle.protocol.specs.declared.State.{State}
@@ -21,7 +22,7 @@ use Rattle.protocol.specs.Geometry.{mostDisks, regions}
 use Rattle.protocol.specs.States.{labelAt, currentOf}
 use Rattle.protocol.specs.Soundness.{Sound, InRange, FitSet, FitLabel, FitPower, inRange, sound}
 use Rattle.protocol.proofs.Loops.{or-last}
-use Rattle.protocol.proofs.Soundness.{in-range, own-disk, is-blank, test-agrees}
+use Rattle.protocol.proofs.Soundness.{in-range, own-disk, test-agrees}
 use Rattle.soundness.specs.declared.Survey.{Survey}
 use Rattle.soundness.specs.Clauses.{ownDisk, add, surveyBelow, filled, soundGiven, soundByClauses}
 
@@ -86,7 +87,7 @@ module _ (n g regions d : ℕ) (l : Label) (inside : has g d ≡ true → d < n)
       go (fails m) (no q) =
           let now = rw (m, le-ltb d n (omega arith)) at h in
           let (fit, e) = and-parts (survey .fit) _ (now .fit) in
-          let zero = is-blank l .0 e in (
+          let zero = compares-labels l blank .0 e in (
             record { fit = fit; named = now .named; dirty = now .dirty },
             record {
               committed = rw zero (inl refl);
@@ -121,7 +122,11 @@ module _ (n g regions d : ℕ) (l : Label) (inside : has g d ≡ true → d < n)
           })
       go (fails m) (no q) =
           rw (m, le-ltb d n (omega arith))
-          (record { fit = rw (h .fit) (is-blank l .1 (a .rest (omega arith))); named = h .named; dirty = h .dirty })
+          (record {
+            fit = rw (h .fit) (compares-labels l blank .1 (a .rest (omega arith)));
+            named = h .named;
+            dirty = h .dirty;
+          })
 
 -- all of them
 module _ (n g regions : ℕ) (labels : List Label) (inside : (d : ℕ) → has g d ≡ true → d < n) where

@@ -5,12 +5,14 @@ use Prim.Native.Nat.{ℕ, zero, suc}
 use lib.Dec.{eqb, ltb}
 use Rattle.sets.specs.Sets.{has, union, below}
 use Rattle.label.specs.declared.Label.{Label}
+use Rattle.label.specs.Bytes.{blank}
+use Rattle.label.specs.Comparing.{sameLabel}
 use Rattle.protocol.specs.declared.Power.{Power}
 use Rattle.protocol.specs.declared.Power.the-variants.{Stopped, Running}
 use Rattle.protocol.specs.declared.State.{State}
 use Rattle.protocol.specs.Geometry.{mostDisks, regions}
 use Rattle.protocol.specs.States.{labelAt, currentOf}
-use Rattle.protocol.specs.Soundness.{inRange, isBlank}
+use Rattle.protocol.specs.Soundness.{inRange}
 use Rattle.soundness.specs.declared.Survey.{Survey}
 
 -- "a C or T that is not 0 names its own disk"
@@ -33,7 +35,7 @@ add n g d l survey =
       named = union (survey .named) (union (l .committed) (l .tentative));
       dirty = union (survey .dirty) (l .dirty);
     })
-    (record { fit = survey .fit && isBlank l; named = survey .named; dirty = survey .dirty }))
+    (record { fit = survey .fit && sameLabel l blank; named = survey .named; dirty = survey .dirty }))
 
 -- the labels of the first disks
 unfoldable pub surveyBelow : ℕ → ℕ → List Label → ℕ → Survey

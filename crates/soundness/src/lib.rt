@@ -3,12 +3,14 @@
 // call begins with this test.
 ghost use mathlib.Core.Path.{_≡_};
 ghost use Rattle.protocol.specs.Geometry.{mostDisks};
-ghost use Rattle.protocol.specs.Soundness.{inRange, isBlank, sound};
+ghost use Rattle.protocol.specs.Soundness.{inRange, sound};
 ghost use Rattle.soundness.specs.Clauses.{ownDisk, add, surveyBelow, filled};
 use bays::region_count;
 use bays::wrong_block_count;
 use bays::wrong_disk_count;
 use label::Label;
+use label::blank;
+use label::same;
 use protocol::Power;
 use protocol::State;
 use regions::RegionMap;
@@ -28,12 +30,6 @@ fn own_disk(d: usize, set: Mask) -> bool
     ensures { λ r. ⌜ r ≡ ownDisk d set ⌝ }
 {
     (set == 0) | sets::has(set, d)
-}
-
-fn is_blank(l: Label) -> bool
-    ensures { λ r. ⌜ r ≡ isBlank l ⌝ }
-{
-    (l.committed == 0) & ((l.tentative == 0) & (l.dirty == 0))
 }
 
 // What some labels say: whether each is fit by itself, the disks that their sets name, but for members, whose sets are
@@ -64,7 +60,7 @@ fn add(survey: Survey, n: usize, g: Mask, d: usize, l: Label) -> Survey
         };
     }
     Survey {
-        fit: survey.fit & is_blank(l),
+        fit: survey.fit & same(l, blank()),
         named: survey.named,
         dirty: survey.dirty,
     }

@@ -32,7 +32,7 @@ impl Implementation for Reference {
             Call::Quiet => cabinet.quiet(supply),
             Call::Restart => cabinet.restart(supply),
             Call::Lose => cabinet.lose(number),
-            Call::Return => cabinet.give_back(number),
+            Call::Return => cabinet.give_back(number, &buffer),
             Call::Cut => cabinet.cut(),
             Call::Diagnose => {
                 let (stage, disk) = (wide(case.stage), wide(case.number));

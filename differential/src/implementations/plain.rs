@@ -24,7 +24,7 @@ impl Implementation for Plain {
             Call::Quiet => plain::quiet(state, case.supply),
             Call::Restart => plain::restart(state, area, case.supply),
             Call::Lose => plain::lose(state, case.number),
-            Call::Return => plain::give_back(state, case.number),
+            Call::Return => plain::give_back(state, case.number, buffer),
             Call::Cut => plain::cut(state),
             Call::Diagnose => {
                 told = plain::diagnose(&state, case.stage, case.number);

@@ -27,7 +27,7 @@ impl Implementation for Proved {
             Call::Quiet => state.clean(case.supply),
             Call::Restart => state.restart(area, case.supply),
             Call::Lose => state.detach(case.number),
-            Call::Return => state.attach(case.number),
+            Call::Return => state.attach(case.number, buffer),
             Call::Cut => state.power_off(),
             Call::Diagnose => return diagnose(case),
             Call::Save => state.save(buffer),

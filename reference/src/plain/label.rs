@@ -51,6 +51,17 @@ pub fn read_label(bytes: &[u8]) -> Result<Reading, u8> {
     })
 }
 
+/// The label of the bay whose labels have this second byte, in a cabinet that has these regions: "the label's own
+/// refusal; 18, its number or n is not this slot's; 22, a dirty bit names no region". Always inlined, since assembling
+/// knows how long a slot is, and then no byte's presence is tested.
+#[inline(always)]
+pub(super) fn read_in_bay(bytes: &[u8], numbers: u8, regions: u8) -> Result<Label, u8> {
+    let label = read_label(bytes)?.label;
+    refuse(LABEL_NUMBERS, bytes[1] != numbers)?;
+    refuse(NO_SUCH_REGION, label.dirty & !regions != 0)?;
+    Ok(label)
+}
+
 /// Label writing: 4, 8, 20, 21. Yields the label's length.
 pub fn write_label(output: &mut [u8], disk: usize, disks: usize, label: &Label) -> Result<usize, u8> {
     refuse(DISK_COUNT, !(1..=8).contains(&disks))?;

@@ -2,7 +2,7 @@
 
 use super::answer::{refuse, Answer};
 use super::fresh::blank;
-use super::label::{fill_slot, read_label};
+use super::label::{fill_slot, read_in_bay};
 use super::sets::below;
 use super::state::State;
 use crate::refusal::*;
@@ -38,11 +38,9 @@ fn assembled(disks: usize, blocks: usize, reach: u8, slots: &[u8]) -> Result<Sta
     refuse(WRONG_LENGTH, slots.len() != SLOT * disks)?;
     refuse(NO_SUCH_DISK, reach & !below(state.disks) != 0)?;
     state.reach = reach;
-    let no_regions = !state.region_map();
+    let regions = state.region_map();
     for ((disk, label), slot) in (0..).zip(&mut state.labels).zip(slots.as_chunks::<SLOT>().0) {
-        *label = read_label(slot)?.label;
-        refuse(LABEL_NUMBERS, slot[1] != state.disks << 4 | disk)?;
-        refuse(NO_SUCH_REGION, label.dirty & no_regions != 0)?;
+        *label = read_in_bay(slot, state.disks << 4 | disk, regions)?;
     }
     Ok(state)
 }

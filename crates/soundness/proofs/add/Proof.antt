@@ -33,11 +33,12 @@ returns-2 c =
 returns-3 : tie.Need-returns-3
 unfolding add
 returns-3 c =
-    let branch = c .before .before in
+    let compared = c .before in
+    let branch = compared .before .before in
     let m = rw (branch .before .before .has .ensures) at (branch .before .if1 .left) in
-    rw (m, le-ltb _ _ (branch .if2 .left), c .before .is-blank .ensures)
+    rw (m, le-ltb _ _ (branch .if2 .left), compared .same .ensures, compared .before .blank .ensures)
 
 pub add-spec : {M : Type 1} → statement M
 add-spec =
     tie.close (tie.spec (search needs) (search needs) returns (search needs) (search needs) (search needs)
-    (search needs) (search needs) returns-2 (search needs) returns-3)
+    (search needs) (search needs) returns-2 (search needs) (search needs) returns-3)

@@ -20,9 +20,9 @@ pub with-one-spec : {M : Type 1} → statement M
 unfolding commandWith
 with-one-spec =
     tie.close
-    (tie.spec (search needs) (search needs) (search needs) (search needs)
+    (tie.spec (search needs) (search needs) (search needs)
     (λ c. rw (c .plain .ensures, c .before .match .keys1))
-    (λ c. rw (c .plain2 .ensures, c .before .match .keys2))
-    (λ c. rw (c .plain3 .ensures, c .before .match .keys3))
-    (λ c. rw (c .plain4 .ensures, c .before .match .keys4))
+    (λ c. rw (c .match .keys2))
+    (λ c. rw (c .plain2 .ensures, c .before .match .keys3))
+    (λ c. rw (c .plain3 .ensures, c .before .match .keys4))
     other-letter)

@@ -3,6 +3,7 @@
 use mathlib.Core.Path.{_≡_, refl}
 use mathlib.Core.List.{_++_}
 use Prim.Native.Nat.{_≤_, _-_, _*_}
+use native.Mathlib.Nat.{le-refl}
 use native.Mathlib.Omega.{arith}
 use lib.ListN.{length, drop, length-take, length-drop}
 use borrow.Author.Needs.{needs}
@@ -10,7 +11,8 @@ use Rattle.label.specs.Bytes.{longestLabel}
 use Rattle.protocol.specs.Loops.{ascending}
 use Rattle.protocol.specs.States.{labelAt}
 use Rattle.protocol.specs.Saving.{slotSize, slotBytes}
-use Rattle.slots.proofs.Written.{label-taken, slots-next, slots-end}
+use Rattle.protocol.proofs.Saving.{stored-taken}
+use Rattle.slots.proofs.Written.{slots-next, slots-end}
 use Rattle.slots.proofs.saving.write_slots.Statement.{statement}
 use Rattle.slots.proofs.saving.write_slots.Tie as tie
 
@@ -25,8 +27,10 @@ abbrev μ-loop : tie.MeasureT-loop
 write-slot-requires : tie.Need-write-slot-requires Inv-loop μ-loop
 unfolding longestLabel
 write-slot-requires c κs =
-    let start = c .before .before .before .before .before .before .before in
-    (simp (length-take, length-drop) (omega arith), label-taken (start .args .s) _ (start .pre .0) (omega arith))
+    let start = c .before .before .before .before .before .before .before in (
+      simp (length-take, length-drop) (omega arith),
+      stored-taken (start .args .s) (start .pre .0) _ (omega arith) slotSize (le-refl _),
+    )
 
 loop-again : tie.Need-loop-again Inv-loop μ-loop
 unfolding longestLabel
