@@ -20,7 +20,7 @@ use Rattle.protocol.specs.Calls.{reachRefusals, shownRefusals, attachRefusals}
 use Rattle.protocol.proofs.Loops.{nil, cons}
 use Rattle.protocol.proofs.Refusals.{in-a-row}
 use Rattle.protocol.proofs.NotRefused.{ReachPassed, reach-passed, attach-passed}
-use Rattle.protocol.proofs.Assembling.{slot-numbered}
+use Rattle.protocol.proofs.Assembling.{bay-numbered}
 
 -- ---- the disk is one of the cabinet's
 
@@ -61,4 +61,4 @@ module _ (s : State) (d : ℕ) (bytes : List ℕ) where
       let bay = firstOf (bayRefusals d (s .disks) (s .blocks) shown) in
       cond (eqb bay 0) (cond (not (sameLabel (shown .label) (labelAt (s .labels) d))) 25 0) bay
   unfolding shownRefusals firstOf
-  shown-in-order = in-a-row _ (slot-numbered d (s .disks) (s .blocks) (reading labelForm bytes))
+  shown-in-order = in-a-row _ (bay-numbered d (s .disks) (s .blocks) (reading labelForm bytes))

@@ -50,10 +50,10 @@ right-set n d set = (fits (test (eqb set 0)), λ h. right (h .known) (h .own))
     right k (inr m) = rw (k, m) (and-false (not (eqb set 0)))
 
 module _ (d n b : ℕ) where
-  -- each refusal of a slot has a number, if it applies
-  pub slot-numbered : (r : Reading) → Each Numbered (bayRefusals d n b r)
+  -- each refusal of a label against its bay has a number, if it applies
+  pub bay-numbered : (r : Reading) → Each Numbered (bayRefusals d n b r)
   unfolding bayRefusals
-  slot-numbered r = cons (λ e. positive (r .refusal) (not-true _ e)) (cons (λ e. lit< tt) (cons (λ e. lit< tt) nil))
+  bay-numbered r = cons (λ e. positive (r .refusal) (not-true _ e)) (cons (λ e. lit< tt) (cons (λ e. lit< tt) nil))
 
   -- what is read where none applies is a label of disk d of n
   pub bay-found : (r : Reading) → Each Unmet (bayRefusals d n b r) → r ≡ found d n (r .label) (r .length)
@@ -108,7 +108,7 @@ module _ (n b online : ℕ) (slots : List ℕ) where
       let bytes = none-of 2 _ _ (lit< tt) (blocks .1) in
       let reach = none-of 8 _ _ (lit< tt) (bytes .1) in
       let range = right-counts n b .0 (count .0, blocks .0) in
-      let unmet = none-applies (each-ascending n _ (λ d l. slot-numbered d n b (slotReading slots d))) (reach .1) in
+      let unmet = none-applies (each-ascending n _ (λ d l. bay-numbered d n b (slotReading slots d))) (reach .1) in
       record {
         fit = record {
           range = range;

@@ -33,7 +33,7 @@ use Rattle.protocol.proofs.Loops.{nil, cons}
 use Rattle.protocol.proofs.Refusals.{none-in-a-row, none-applies}
 use Rattle.protocol.proofs.Soundness.{test-agrees}
 use Rattle.protocol.proofs.Outcomes.{refused-or}
-use Rattle.protocol.proofs.Assembling.{slot-numbered, bay-found}
+use Rattle.protocol.proofs.Assembling.{bay-numbered, bay-found}
 use Rattle.protocol.proofs.Saving.{label-codec, stored-read}
 
 module _ (s : State) (area output : List ℕ) (d : ℕ) where
@@ -54,7 +54,7 @@ module _ (s : State) (area output : List ℕ) (d : ℕ) where
       shown-found : has (s .online) d ≡ false → read ≡ found d (s .disks) stored (read .length)
       unfolding attachRefusals reachRefusals shownRefusals
       shown-found away =
-          let numbered = slot-numbered d (s .disks) (s .blocks) read in
+          let numbered = bay-numbered d (s .disks) (s .blocks) read in
           let later = none-in-a-row _ (cons (λ z. lit< tt) (cons (λ z. lit< tt) nil)) none .1 in
           let (bay, other) = none-in-a-row _ numbered (rw away at later) in
           let same = compares-labels (read .label) stored .0 (not-false _ (none-of 25 _ _ (lit< tt) other .0)) in
@@ -92,7 +92,7 @@ module _ (s : State) (area output : List ℕ) (d : ℕ) where
 
     -- ---- by its number
 
-    pub taken : firstOf (attachRefusals s d bytes) ≡ 0
+    taken : firstOf (attachRefusals s d bytes) ≡ 0
         → attachOutcome s area output d bytes ≡ outcome 0 0 back area output
     unfolding attachOutcome refusedOr
     taken e = rw e

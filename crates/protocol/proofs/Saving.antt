@@ -32,7 +32,7 @@ use Rattle.protocol.proofs.Loops.{Each, each-ascending}
 use Rattle.protocol.proofs.Soundness.{right-counts, test-agrees}
 use Rattle.protocol.proofs.Iterations.{even-length, even-iteration}
 use Rattle.protocol.proofs.Refusals.{Unmet, none-given, none-applies}
-use Rattle.protocol.proofs.Assembling.{right-set, slot-numbered, label-read, blank-past, all-slots}
+use Rattle.protocol.proofs.Assembling.{right-set, bay-numbered, label-read, blank-past, all-slots}
 
 -- ---- one label
 
@@ -125,7 +125,7 @@ module _ (s : State) (fit : Sound s) where
     where
       unmet : (d : ℕ) → d < s .disks → Each Unmet (bayRefusals d (s .disks) (s .blocks) (slotReading (slotsOf s) d))
       unmet d l =
-          none-applies (slot-numbered d (s .disks) (s .blocks) (slotReading (slotsOf s) d))
+          none-applies (bay-numbered d (s .disks) (s .blocks) (slotReading (slotsOf s) d))
           (rw (slot-read d l, eq-eqb d d refl, eq-eqb (s .disks) (s .disks) refl, fit .labels .each d l .dirty))
 
   -- and gives the state's labels, those from n up too

@@ -31,7 +31,7 @@ use Rattle.protocol.specs.Bays.{bayRefusals}
 use Rattle.protocol.proofs.Loops.{nil, cons, each-ascending}
 use Rattle.protocol.proofs.Iterations.{listed-length}
 use Rattle.protocol.proofs.Refusals.{in-a-row}
-use Rattle.protocol.proofs.Assembling.{slot-numbered}
+use Rattle.protocol.proofs.Assembling.{bay-numbered}
 use Rattle.slots.specs.Below.{refusalsBelow, labelsBelow}
 
 -- ---- one slot more
@@ -51,7 +51,7 @@ module _ (d n b : ℕ) (slots : List ℕ) {r : Reading} (found : r ≡ slotReadi
   refusal-next before own next =
       next
       ∙ rw (before, own, found, add-one)
-      (sym (in-a-row _ (each-ascending d _ (λ i l. slot-numbered i n b (slotReading slots i)))))
+      (sym (in-a-row _ (each-ascending d _ (λ i l. bay-numbered i n b (slotReading slots i)))))
 
   pub label-next : {labels : List Label} → labels ≡ labelsBelow d slots → d < mostDisks
       → set labels d (r .label) ≡ labelsBelow (d + 1) slots
