@@ -1,5 +1,5 @@
-// "Lose, return and cut change only R or the power condition": the calls on the state alone, each for any state and
-// numbers.
+// "Lose, return and cut change only R or the power condition": the calls that touch no disk, each for any state, any
+// numbers and any label bytes.
 mod checks;
 mod power;
 mod reach;

@@ -161,7 +161,7 @@ SwappedJoins =
 module _ (s : State) (area output : List ℕ) (d : ℕ) (bytes : List ℕ) where
   pub record Returning (o : Outcome) : Type 0 where
     -- "The disk comes into reach only if they read as its stored label": done, a disk that was out of reach showed
-    -- exactly the label that the state holds, and anything after it
+    -- exactly the label that the state holds, and anything after it (of bytes, which every buffer has)
     pub shown : o .answer .refusal ≡ 0 → has (s .online) d ≡ false → AreBytes bytes
         → (rest : List ℕ) × (bytes ≡ storedLabel s d ++ rest)
     -- so what another cabinet wrote on it, any label but the stored one, gives 25 or an earlier number
