@@ -67,7 +67,8 @@ pub record Conforms (t : SinceFormat) (m : Machine) : Type 0 where
   -- a call's reply is what that call of the list yields
   pub replies : (n b : ℕ) (earlier : List Step) → t ≡ calls n b earlier → (call : Call) (loan : Loan)
       → executed (Perform call loan) m .reply ≡ replyAfter n b earlier call loan
-  -- "The program's `r d` line shows the stored label" (document 02, 2.6), so each disk of the cabinet comes back
+  -- "The program's `r d` line shows the stored label" (document 02, 2.6), so each disk of the cabinet comes back; there
+  -- is no other, and its number gives 8
   pub returns : (n b : ℕ) (earlier : List Step) → t ≡ calls n b earlier → (d : ℕ)
       → executed (Perform (Attach d) (StoredLabel d)) m .reply .result ≡ cond (ltb d n) 0 8
   -- of the list demand 3 holds
