@@ -354,10 +354,11 @@ fn a_line_says_what_else_a_disk_shows() {
     assert_eq!(line(3, &[]), "r 3");
 }
 
-/// The state's own labels decide what a restart names, and not those that a disk shows. So each of these mistakes needs
-/// a claim about returns.
+/// The state's own labels decide what a restart names, and not those that a disk shows. So in histories each of these
+/// mistakes needs a claim about returns. (Assembling, which is in none, gives a state that is not sound where n is not
+/// compared.)
 #[test]
-fn the_mistakes_break_neither_demand_3_nor_soundness() {
+fn in_histories_the_mistakes_break_neither_demand_3_nor_soundness() {
     let mistakes = [
         Mistake::BayIgnoresDiskCount,
         Mistake::ReturnCheckedWhenStopped,
