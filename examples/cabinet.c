@@ -6,7 +6,8 @@
 
 static struct cabinet_state expect(enum cabinet_refusal refusal, const char *call, struct cabinet_answer answer)
 {
-    printf("%s: refusal %d, stores %d, current %d\n", call, answer.refusal, answer.stores, answer.state.current);
+    printf("%s: refusal %d (%s), stores %d, current %d\n", call, answer.refusal, cabinet_refusal_text(answer.refusal),
+           answer.stores, answer.state.current);
     if (answer.refusal != refusal)
         exit(EXIT_FAILURE);
     return answer.state;
@@ -14,7 +15,7 @@ static struct cabinet_state expect(enum cabinet_refusal refusal, const char *cal
 
 int main(void)
 {
-    static uint8_t area[3 * 8 * CABINET_BLOCK_SIZE];
+    static uint8_t area[CABINET_AREA_SIZE(3, 8)];
     uint8_t sevens[CABINET_BLOCK_SIZE], eights[CABINET_BLOCK_SIZE], found[CABINET_BLOCK_SIZE] = {0};
     memset(sevens, 7, sizeof sevens);
     memset(eights, 8, sizeof eights);

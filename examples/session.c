@@ -4,10 +4,22 @@
 #include <stdio.h>
 #include <string.h>
 
-/* Prints what the cabinet program does, but for the byte read. */
+static uint8_t area[CABINET_AREA_SIZE(3, 8)], slots[CABINET_SLOTS_SIZE(3)];
+static uint8_t sevens[CABINET_BLOCK_SIZE], found[CABINET_BLOCK_SIZE];
+
+/* Ends a line, that of a refused call with the refusal's text. */
+static void end_line(uint8_t refusal)
+{
+    if (refusal != CABINET_DONE)
+        printf(": %s", cabinet_refusal_text(refusal));
+    printf("\n");
+}
+
+/* Prints what the cabinet program does, but for the byte read and the text. */
 static struct cabinet_state told(struct cabinet_answer answer)
 {
-    printf("%d %d %d %d\n", answer.refusal, answer.stores, answer.state.current, answer.state.online);
+    printf("%d %d %d %d", answer.refusal, answer.stores, answer.state.current, answer.state.online);
+    end_line(answer.refusal);
     return answer.state;
 }
 
@@ -20,12 +32,9 @@ static struct cabinet_answer returned(struct cabinet_state state, size_t disk)
 }
 
 /* Prints what a read found. */
-static void block(const uint8_t *bytes)
+static void block(void)
 {
-    size_t sevens = 0;
-    while (sevens < CABINET_BLOCK_SIZE && bytes[sevens] == 7)
-        sevens++;
-    printf("%s\n", sevens == CABINET_BLOCK_SIZE ? "sevens" : "other bytes");
+    printf("%s\n", memcmp(found, sevens, sizeof found) == 0 ? "sevens" : "other bytes");
 }
 
 /* Document 01's H11: disk 1 of 3, committed to disks 0 and 1, region 0 dirty. */
@@ -45,15 +54,14 @@ static void diagnoses(struct cabinet_state state, size_t disk)
 {
     for (size_t stage = 1; stage <= 4; stage++) {
         struct cabinet_diagnosis d = cabinet_diagnose(state, stage, disk);
-        printf("%d %d %zu %d\n", d.refusal, d.reason, d.disk, d.set);
+        printf("%d %d %zu %d", d.refusal, d.reason, d.disk, d.set);
+        end_line(d.refusal);
     }
 }
 
-int main(void)
+/* Document 01's. */
+static struct cabinet_state session(void)
 {
-    static uint8_t area[3 * 8 * CABINET_BLOCK_SIZE];
-    uint8_t sevens[CABINET_BLOCK_SIZE], found[CABINET_BLOCK_SIZE], slots[3 * CABINET_SLOT_SIZE];
-    memset(sevens, 7, sizeof sevens);
     struct cabinet_state s = told(cabinet_format(3, 8, area, sizeof area));
     s = told(cabinet_detach(s, 2));
     s = told(cabinet_write(s, area, sizeof area, 0, sevens, sizeof sevens, 99));
@@ -62,9 +70,13 @@ int main(void)
     s = told(returned(s, 2));
     s = told(cabinet_join(s, area, sizeof area, 2, 99));
     s = told(cabinet_read(s, area, sizeof area, 0, found, sizeof found, 99));
-    block(found);
+    block();
+    return s;
+}
 
-    /* Disk 2 dies, and a blank one joins in its place. */
+/* Disk 2 dies, and a blank one joins in its place. */
+static struct cabinet_state swapped(struct cabinet_state s)
+{
     s = told(cabinet_save(s, slots, sizeof slots));
     s = told(cabinet_detach(s, 2));
     s = told(cabinet_swap(s, area, sizeof area, 2, 99));
@@ -72,14 +84,19 @@ int main(void)
     s = told(cabinet_attach(s, 2, slots + 2 * CABINET_SLOT_SIZE, CABINET_SLOT_SIZE));
     s = told(cabinet_attach(s, 2, slots + CABINET_SLOT_SIZE, CABINET_SLOT_SIZE));
     s = told(returned(s, 2));
-    s = told(cabinet_join(s, area, sizeof area, 2, 99));
+    return told(cabinet_join(s, area, sizeof area, 2, 99));
+}
 
+int main(void)
+{
+    memset(sevens, 7, sizeof sevens);
+    struct cabinet_state s = swapped(session());
     s = told(cabinet_write(s, area, sizeof area, 7, sevens, sizeof sevens, 99));
     s = told(cabinet_detach(s, 0));
     s = told(cabinet_clean(s, 99));
     /* Block 1 has zeros: the output keeps the sevens. */
     s = told(cabinet_read(s, area, sizeof area, 1, found, sizeof found, 3));
-    block(found);
+    block();
     s = told(cabinet_save(s, slots, sizeof slots));
     s = told(cabinet_assemble(3, 8, 5, slots, sizeof slots));
     printf("%d disks of %d blocks\n", s.disks, s.blocks);
@@ -87,5 +104,7 @@ int main(void)
         printf("%d %d %d\n", s.labels[d].committed, s.labels[d].tentative, s.labels[d].dirty);
     diagnoses(s, 1);
     labels();
+    /* No call gives this number. */
+    printf("%s\n", cabinet_refusal_text(UINT8_MAX));
     return 0;
 }

@@ -1,14 +1,18 @@
 /*
- * The calls of the cohort-set disk cabinet (documents 01 and 02), for C99 and C++ on x86-64 Linux. Each function is
- * proved to give what the definition of its call says: crates/protocol/specs/Calls.antt, Diagnosis.antt and
- * Saving.antt, and crates/label/specs/Reading.antt and Writing.antt.
+ * The calls of the cohort-set disk cabinet (the company's documents 01 and 02), for C99, C17 and C++17 on x86-64 Linux.
+ * Each function of the archive is proved to give what the definition of its call says:
+ * crates/protocol/specs/Calls.antt, Diagnosis.antt and Saving.antt, and crates/label/specs/Reading.antt and
+ * Writing.antt.
  *
- * Build and link:  ./library
+ * Build and link:  ./install PREFIX
+ *                  cc program.c $(PKG_CONFIG_PATH=PREFIX/lib/pkgconfig pkg-config --cflags --libs cabinet)
+ * or in place:     ./library
  *                  cc -Iinclude program.c target/libcabinet.a
  *
- * A set of disks is a byte, bit d for disk d. The disk area is one buffer of disks * blocks * 64 bytes: block k of disk
- * d starts at (d * blocks + k) * 64. The caller keeps the area and the state, and gives each call the state that the
- * last one yielded. The library keeps nothing and allocates nothing, so calls on different cabinets may run at once.
+ * A set of disks is a byte, bit d for disk d. The disk area is one buffer of CABINET_AREA_SIZE(disks, blocks) bytes:
+ * block k of disk d starts at (d * blocks + k) * 64. The caller keeps the area and the state, and gives each call the
+ * state that the last one yielded. The library keeps nothing and allocates nothing, so calls on different cabinets may
+ * run at once.
  *
  * The budget is the number of stores that the power lasts for. If a call has more to make, exactly the first so many
  * are made, the cabinet is stopped, and the answer is refusal 15 with their number. Any other refusal gives its number,
@@ -39,10 +43,23 @@
 extern "C" {
 #endif
 
+#define CABINET_VERSION_MAJOR 0
+#define CABINET_VERSION_MINOR 2
+#define CABINET_VERSION_PATCH 0
+
+/* As a string. Two steps, since # takes its operand unexpanded. */
+#define CABINET_VERSION CABINET_DOTTED(CABINET_VERSION_MAJOR, CABINET_VERSION_MINOR, CABINET_VERSION_PATCH)
+#define CABINET_DOTTED(major, minor, patch) CABINET_DOTTED_UNEXPANDED(major, minor, patch)
+#define CABINET_DOTTED_UNEXPANDED(major, minor, patch) #major "." #minor "." #patch
+
 #define CABINET_BLOCK_SIZE 64
 #define CABINET_SLOT_SIZE 5
 #define CABINET_MOST_DISKS 8
 #define CABINET_MOST_BLOCKS 64
+
+/* The bytes of the disk area and of the slots, as constant expressions where the arguments are. */
+#define CABINET_AREA_SIZE(disks, blocks) ((size_t)(disks) * (size_t)(blocks) * CABINET_BLOCK_SIZE)
+#define CABINET_SLOTS_SIZE(disks) ((size_t)(disks) * CABINET_SLOT_SIZE)
 
 /* What a disk says of itself. */
 struct cabinet_label {
@@ -87,35 +104,96 @@ struct cabinet_written {
     size_t length;   /* of the label in bytes, 2 to 5; refused, 0 */
 };
 
-/* The papers' numbers. A call gives the first in its own order whose condition holds. */
+/* The archive's functions take and give these structs by value. A compiler that lays them out otherwise, for a packing
+   pragma or a machine of another word size, must not get as far as linking: it stops here, at an array of length -1. */
+#define CABINET_SIZE(type, size) typedef char cabinet_size_##type[sizeof(struct cabinet_##type) == (size) ? 1 : -1]
+#define CABINET_OFFSET(type, field, offset) \
+    typedef char cabinet_offset_##type##_##field[offsetof(struct cabinet_##type, field) == (offset) ? 1 : -1]
+CABINET_OFFSET(label, tentative, 1);
+CABINET_OFFSET(label, dirty, 2);
+CABINET_SIZE(label, 3);
+CABINET_OFFSET(state, disks, 24);
+CABINET_OFFSET(state, blocks, 25);
+CABINET_OFFSET(state, online, 26);
+CABINET_OFFSET(state, current, 27);
+CABINET_SIZE(state, 28);
+CABINET_OFFSET(answer, stores, 28);
+CABINET_OFFSET(answer, refusal, 30);
+CABINET_SIZE(answer, 32);
+CABINET_OFFSET(diagnosis, refusal, 8);
+CABINET_OFFSET(diagnosis, reason, 9);
+CABINET_OFFSET(diagnosis, set, 10);
+CABINET_SIZE(diagnosis, 16);
+CABINET_OFFSET(reading, number, 8);
+CABINET_OFFSET(reading, disks, 16);
+CABINET_OFFSET(reading, label, 24);
+CABINET_OFFSET(reading, length, 32);
+CABINET_SIZE(reading, 40);
+CABINET_OFFSET(written, length, 8);
+CABINET_SIZE(written, 16);
+#undef CABINET_SIZE
+#undef CABINET_OFFSET
+
+/* The papers' numbers, each with its name and its condition, in the papers' words. A call gives the first in its own
+   order whose condition holds. The enum and the texts below are made from this table; a program may make a table of its
+   own from it. What the conditions leave out:
+   2       the lengths are CABINET_AREA_SIZE(disks, blocks) and CABINET_SLOTS_SIZE(disks)
+   8, 9    disks and blocks count from 0; 8 also where the set online has such a disk
+   13, 14  a set to run with
+   17      the bits from 3 up name no field
+   18      a label is its bay's if its number is that of its slot, or of the disk that shows it, and its disks are the
+           cabinet's
+   25      the stored label is the one that the state holds for the disk */
+#define CABINET_REFUSALS(LINE) \
+    LINE(1, UNSOUND, "the state is not sound") \
+    LINE(2, BUFFER_LENGTH, "the disk area or the slot buffer has a wrong length") \
+    LINE(3, BLOCK_LENGTH, "the data or the output is not 64 bytes") \
+    LINE(4, DISK_COUNT, "the number of disks is outside 1 to 8") \
+    LINE(5, BLOCK_COUNT, "the number of blocks is outside 1 to 64") \
+    LINE(6, STOPPED, "the cabinet is stopped") \
+    LINE(7, RUNNING, "the cabinet is running") \
+    LINE(8, NO_SUCH_DISK, "there is no disk of this number") \
+    LINE(9, NO_SUCH_BLOCK, "there is no block of this number") \
+    LINE(10, DISK_OFFLINE, "the disk is out of reach") \
+    LINE(11, DISK_CURRENT, "the disk is in the current set") \
+    LINE(12, NONE_LIVE, "no member of the current set is in reach") \
+    LINE(13, NO_SET, "the labels in reach name no set") \
+    LINE(14, SEVERAL_SETS, "the labels in reach name more than one set") \
+    LINE(15, POWER_LOST, "the power went before the last store") \
+    LINE(16, LABEL_CUT_SHORT, "there are fewer bytes than the label has") \
+    LINE(17, LABEL_MAP, "a bit that names no field stands in the label's map") \
+    LINE(18, LABEL_PLACE, "the label's disk number or number of disks cannot be, or is not its bay's") \
+    LINE(19, LABEL_EMPTY_FIELD, "a field that the label's map names is 0") \
+    LINE(20, LABEL_SET, "a set of the label names a disk that is not there, or omits its own") \
+    LINE(21, NO_ROOM, "the output is shorter than the label") \
+    LINE(22, NO_SUCH_REGION, "a dirty bit of the label names no region") \
+    LINE(23, NO_SUCH_STAGE, "the stage is not 1, 2 or 3") \
+    LINE(24, DISK_ONLINE, "the disk is in reach") \
+    LINE(25, OTHER_LABEL, "the label that the disk shows is not the stored one")
+
 enum cabinet_refusal {
     CABINET_DONE = 0,
-    CABINET_UNSOUND = 1,            /* the state is not sound */
-    CABINET_BUFFER_LENGTH = 2,      /* the area is not disks * blocks * 64 bytes, or the slots not 5 * disks */
-    CABINET_BLOCK_LENGTH = 3,       /* the data or the output is not 64 bytes */
-    CABINET_DISK_COUNT = 4,         /* disks is outside 1 to 8 */
-    CABINET_BLOCK_COUNT = 5,        /* blocks is outside 1 to 64 */
-    CABINET_STOPPED = 6,            /* the cabinet is stopped */
-    CABINET_RUNNING = 7,            /* the cabinet is running */
-    CABINET_NO_SUCH_DISK = 8,       /* the disk, or one in the set online, is not below disks */
-    CABINET_NO_SUCH_BLOCK = 9,      /* the block is not below blocks */
-    CABINET_DISK_OFFLINE = 10,      /* the disk is not online */
-    CABINET_DISK_CURRENT = 11,      /* the disk is current */
-    CABINET_NONE_LIVE = 12,         /* no current disk is online */
-    CABINET_NO_SET = 13,            /* the labels of the disks online name no set to run with */
-    CABINET_SEVERAL_SETS = 14,      /* they name more than one */
-    CABINET_POWER_LOST = 15,        /* the call has more stores to make than the budget */
-    CABINET_LABEL_CUT_SHORT = 16,   /* there are fewer bytes than the label has */
-    CABINET_LABEL_MAP = 17,         /* a bit from 3 up stands in the label's map */
-    CABINET_LABEL_PLACE = 18,       /* the label's disk number or number of disks cannot be, or is not its bay's */
-    CABINET_LABEL_EMPTY_FIELD = 19, /* a field that the label's map names is 0 */
-    CABINET_LABEL_SET = 20,         /* a set of the label names a disk that is not there, or omits its own */
-    CABINET_NO_ROOM = 21,           /* the output is shorter than the label */
-    CABINET_NO_SUCH_REGION = 22,    /* a dirty bit of the label names no region */
-    CABINET_NO_SUCH_STAGE = 23,     /* the stage is not 1, 2 or 3 */
-    CABINET_DISK_ONLINE = 24,       /* the disk is online */
-    CABINET_OTHER_LABEL = 25        /* the label that the disk shows is not the one that the state holds for it */
+#define CABINET_ENUMERATOR(number, name, text) CABINET_##name = number,
+    CABINET_REFUSALS(CABINET_ENUMERATOR)
+#undef CABINET_ENUMERATOR
 };
+
+/* The text of a number, for a person to read. It is in the header, since the archive holds nothing but proved
+   functions. */
+static inline const char *cabinet_refusal_text(uint8_t refusal)
+{
+    switch (refusal) {
+    case CABINET_DONE:
+        return "done";
+#define CABINET_CASE(number, name, text) \
+    case CABINET_##name:                 \
+        return text;
+        CABINET_REFUSALS(CABINET_CASE)
+#undef CABINET_CASE
+    default:
+        return "not a refusal of this library";
+    }
+}
 
 /* Why a disk's own set (its tentative one if there is one, else its committed one) is no candidate of a stage. The
    first in this order that is true is given. */

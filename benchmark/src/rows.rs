@@ -1,8 +1,7 @@
 //! The rows of the table: a call, and the state that it is made on.
 
-use reference::plain::{self, State};
-use reference::refusal::{DONE, UNSOUND};
-use reference::slots::SLOT;
+use plain::refusal::{DONE, UNSOUND};
+use plain::{State, SLOT};
 
 /// n of every row.
 pub const DISKS: usize = 8;

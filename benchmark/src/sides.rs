@@ -3,8 +3,7 @@
 use crate::rows::{Buffers, Call, Row, BLOCK, BLOCKS, DISK, DISKS, STAGE, SUPPLY};
 use crate::timing::repeat;
 use differential::implementations::{from_product, to_product, told_by_product};
-use reference::plain;
-use reference::slots::SLOT;
+use plain::SLOT;
 use std::hint::black_box;
 use std::time::Duration;
 
@@ -68,7 +67,9 @@ pub const PROVED: Side<cabinet::State, cabinet::Answer, cabinet::Diagnosis> = Si
     power_off: |state| state.power_off(),
     diagnose: |state, stage, disk| state.diagnose(stage, disk),
     save: |state, slots| state.save(slots),
-    assemble: cabinet::State::assemble,
+    assemble: |disks, blocks, reach, slots| {
+        cabinet::State::assemble(disks, blocks, cabinet::DiskSet::from_bits(reach), slots)
+    },
     state: to_product,
     answer: plain_answer,
     told: told_by_product,

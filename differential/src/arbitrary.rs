@@ -5,7 +5,7 @@ use crate::case::{Call, Case};
 use crate::comparison::Source;
 use crate::implementations::{Implementation, Plain};
 use crate::states;
-use reference::plain::State;
+use plain::State;
 use reference::random::Random;
 use reference::slots::SLOT;
 use reference::state::BLOCK;

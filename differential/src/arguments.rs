@@ -1,8 +1,8 @@
 //! Random arguments of calls: mostly good ones, and bad ones in so many of a hundred.
 
 use crate::case::{Call, Case};
-use crate::implementations::{Implementation, Plain};
-use reference::plain::State;
+use crate::implementations::{to_reference, Implementation, Plain};
+use plain::State;
 use reference::random::Random;
 use reference::shown::Shown;
 use reference::slots::SLOT;
@@ -60,7 +60,7 @@ fn shown(random: &mut Random, state: &State, disk: usize, foreign: usize) -> Vec
     } else {
         Shown::Stored
     };
-    let mut bytes = kind.bytes(&(*state).into(), u16::try_from(disk).unwrap_or(u16::MAX));
+    let mut bytes = kind.bytes(&to_reference(*state), u16::try_from(disk).unwrap_or(u16::MAX));
     if is_foreign && random.percent(30) && !bytes.is_empty() {
         let place = random.below(bytes.len());
         bytes[place] ^= 1 << random.below(8);

@@ -1,6 +1,6 @@
 //! A case: one call, with everything that goes into it.
 
-use reference::plain::{Label, State};
+use plain::{Label, State};
 
 /// The calls, by the papers' names.
 #[derive(Clone, Copy, Debug, PartialEq, Eq, PartialOrd, Ord)]

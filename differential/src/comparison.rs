@@ -4,7 +4,7 @@ use crate::case::Case;
 use crate::counts::Counts;
 use crate::implementations::{Implementation, Outcome};
 use crate::{state_bytes, word};
-use reference::plain::{Diagnosis, Reading};
+use plain::{Diagnosis, Reading};
 use std::fmt;
 use std::panic::{catch_unwind, AssertUnwindSafe};
 

@@ -4,7 +4,7 @@ use crate::arguments::{blocks, byte, bytes, call_on, disks, number};
 use crate::case::{Call, Case};
 use crate::comparison::Source;
 use crate::implementations::Outcome;
-use reference::plain::State;
+use plain::State;
 use reference::random::Random;
 use reference::state::BLOCK;
 

@@ -1,6 +1,6 @@
 //! A state as 28 bytes: n, b, R, G, then each disk's label, which is 3: C, T and the dirty map.
 
-use reference::plain::{Label, State};
+use plain::{Label, State};
 
 /// The bytes of a state.
 pub const LENGTH: usize = 28;

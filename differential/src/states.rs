@@ -2,7 +2,7 @@
 
 use crate::arguments::{blocks, byte, disks};
 use crate::state_bytes;
-use reference::plain::{Label, State};
+use plain::{Label, State};
 use reference::random::Random;
 
 /// The sets that the labels of one state name, besides those of one disk.

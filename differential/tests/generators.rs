@@ -1,9 +1,10 @@
 //! The states that cases are made of are of the kinds that they are said to be.
 
+use differential::implementations::to_reference;
 use differential::state_bytes;
 use differential::states;
+use plain::{Label, State};
 use reference::mistakes::Rules;
-use reference::plain::{Label, State};
 use reference::random::Random;
 
 /// How many states are looked at.
@@ -11,7 +12,7 @@ const STATES: usize = 20_000;
 
 /// Whether the reference takes the state for sound.
 fn is_sound(state: State) -> bool {
-    reference::state::State::from(state).is_sound(Rules::PAPER)
+    to_reference(state).is_sound(Rules::PAPER)
 }
 
 #[test]

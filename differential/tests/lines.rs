@@ -6,7 +6,7 @@ use differential::comparison::Source;
 use differential::histories::Histories;
 use differential::implementations::{Implementation, Plain};
 use differential::word;
-use reference::plain::State;
+use plain::State;
 use reference::random::Random;
 
 /// Checks the lines of the source's cases.

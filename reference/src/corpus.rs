@@ -250,6 +250,19 @@ impl Corpus {
 
     /// Disks that come and go between calls.
     fn lost_and_returned(&mut self) {
+        self.heading("the case of docs/METHOD.md: a disk that was away during a change, alone");
+        self.lines(&[
+            "f 2 1",
+            "w 0 40 99",
+            "x 1",
+            "w 0 41 99",
+            "c",
+            "x 0",
+            "r 1",
+            "s 99",
+            "r 0",
+        ]);
+        self.lines(&["s 99", "g 0 99"]);
         for n in 2..=8u16 {
             self.heading(&format!("each disk away for a while, n = {n}"));
             self.line(format!("f {n} 2"));

@@ -3,8 +3,7 @@
 //!
 //! It is written from the papers alone and shares no code, table or layout with the proved product. It is meant to be
 //! read beside the paper: each rule stands once, at a place named in the paper's terms, and the comments give the
-//! paper's sentence. The restart searches all sets, as the definition says, and does not try to be fast. The module
-//! [`plain`] has the calls a second time, for speed; a test holds it to the others.
+//! paper's sentence. The restart searches all sets, as the definition says, and does not try to be fast.
 
 #![forbid(unsafe_code)]
 
@@ -24,7 +23,6 @@ pub mod lists;
 pub mod mistakes;
 pub mod naming;
 pub mod packing;
-pub mod plain;
 pub mod program;
 pub mod random;
 pub mod refusal;

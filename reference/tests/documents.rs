@@ -8,9 +8,10 @@ use reference::mistakes::{Mistake, Rules};
 use reference::{corpus, driver};
 
 /// The pages that have sessions.
-const PAGES: [(&str, &str); 2] = [
+const PAGES: [(&str, &str); 3] = [
     ("README.md", include_str!("../../README.md")),
     ("docs/CHANGES.md", include_str!("../../docs/CHANGES.md")),
+    ("docs/METHOD.md", include_str!("../../docs/METHOD.md")),
 ];
 
 /// The name of a column for the answers before a request. An empty cell says that it was the same.

@@ -1,5 +1,6 @@
-//! What a call yields.
+//! What a call by value yields.
 
+use crate::error::Error;
 use crate::refusal::{self, Refusal};
 use crate::state::State;
 
@@ -22,5 +23,14 @@ impl Answer {
     /// Whether the call was done, or why not.
     pub fn outcome(self) -> Result<(), Refusal> {
         refusal::outcome(self.refusal)
+    }
+
+    /// The stores that a done call made, or why it was not done.
+    pub fn result(self) -> Result<u16, Error> {
+        let Answer { stores, .. } = self;
+        match self.outcome() {
+            Ok(()) => Ok(stores),
+            Err(refusal) => Err(Error { refusal, stores }),
+        }
     }
 }

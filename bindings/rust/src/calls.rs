@@ -7,6 +7,7 @@
 
 use crate::answer::Answer;
 use crate::diagnosis::{Diagnosis, Told};
+use crate::disk_set::DiskSet;
 use crate::label::{Label, Reading, Written};
 use crate::state::State;
 
@@ -44,19 +45,22 @@ unsafe extern "C" {
     safe fn cabinet_power_off(state: State) -> Answer;
     safe fn cabinet_diagnose(state: State, stage: usize, disk: usize) -> Told;
     fn cabinet_save(state: State, slots: *mut u8, slots_length: usize) -> Answer;
-    fn cabinet_assemble(disks: usize, blocks: usize, online: u8, slots: *const u8, slots_length: usize) -> Answer;
+    fn cabinet_assemble(disks: usize, blocks: usize, online: DiskSet, slots: *const u8, slots_length: usize) -> Answer;
     fn cabinet_read_label(bytes: *const u8, bytes_length: usize) -> Reading;
     fn cabinet_write_label(output: *mut u8, output_length: usize, number: usize, disks: usize, label: Label)
         -> Written;
 }
 
-/// The calls. None asks anything of its caller: each takes whatever it is given, and refuses what does not fit by the
-/// first of its [refusals](crate::Refusal) whose condition holds, in the order given here. `budget` is the number of
-/// stores that the power lasts for (the paper's supply).
+/// The calls by value, for those who keep the state elsewhere; a [`Cabinet`](crate::Cabinet) keeps it itself. None asks
+/// anything of its caller: each takes whatever it is given, and refuses what does not fit by the first of its
+/// [refusals](crate::Refusal) whose condition holds, in the order given here. `budget` is the number of stores that the
+/// power lasts for (document 01's supply).
+///
+/// One duty no call can check: give each the state and the area that the last one left.
 ///
 /// They are inlined, so that a state is copied once on its way to the library.
 impl State {
-    /// A new cabinet (the paper's fresh): all disks in reach and current, no block dirty, the area all zero.
+    /// A new cabinet (document 01's fresh): all disks in reach and current, no block dirty, the area all zero.
     ///
     /// Refusals: 4 the number of disks, 5 of blocks, 2 the area's length. Refused, it yields the default state and
     /// leaves the area.
@@ -107,20 +111,6 @@ impl State {
     /// in reach; if not, there is no store to make, and a budget of 0 will do. The new disk is out of reach:
     /// [attach](State::attach) it by its empty label, then [join](State::join) it.
     ///
-    /// ```
-    /// # use cabinet::{area_length, Label, State, BLOCK_SIZE};
-    /// let mut area = vec![0; area_length(3, 8).expect("3 disks of 8 blocks")];
-    /// let state = State::format(3, 8, &mut area).state;
-    /// let state = state.write(&mut area, 0, &[7; BLOCK_SIZE], 99).state;
-    /// // Disk 2 dies. A blank one is put in, pushed home, and gets all blocks. Its label is empty.
-    /// let swapped = state.detach(2).state.swap(&mut area, 2, 99);
-    /// assert_eq!((swapped.outcome(), swapped.stores, swapped.state.current), (Ok(()), 4, 0b011));
-    /// let mut shown = [0; 2];
-    /// Label::default().write(&mut shown, 2, 3);
-    /// let joined = swapped.state.attach(2, &shown).state.join(&mut area, 2, 99);
-    /// assert_eq!((joined.outcome(), joined.state.current), (Ok(()), 0b111));
-    /// ```
-    ///
     /// Refusals: 1 not sound, 2 the area's length, 6 stopped, 8 no such disk, 24 in reach, 12 the disk is current and
     /// no current disk is in reach, 15 the power lost, with the old disk still in.
     #[inline]
@@ -129,7 +119,7 @@ impl State {
         unsafe { cabinet_swap(self, area.as_mut_ptr(), area.len(), disk, budget) }
     }
 
-    /// Clears the dirty bits of the current disks in reach (the paper's quiet), so that a restart need not copy.
+    /// Clears the dirty bits of the current disks in reach (document 01's quiet), so that a restart need not copy.
     ///
     /// Refusals: 1 not sound, 6 stopped, 12 no current disk in reach, 15 the power lost.
     #[inline]
@@ -147,7 +137,7 @@ impl State {
         unsafe { cabinet_restart(self, area.as_mut_ptr(), area.len(), budget) }
     }
 
-    /// The disk is pulled out (the paper's lose). Done, with no effect, for one that is out of reach.
+    /// The disk is pulled out (document 01's lose). Done, with no effect, for one that is out of reach.
     ///
     /// Refusals: 1 not sound, 8 no such disk.
     #[inline]
@@ -155,27 +145,12 @@ impl State {
         cabinet_detach(self, disk)
     }
 
-    /// The disk is pushed back (the paper's return). It is current again if the cabinet has not moved on without it.
+    /// The disk is pushed back (document 01's return). It is current again if the cabinet has not moved on without it.
     ///
     /// It shows its label, the bytes as they stand on it, and is taken only if they start with the label that this
     /// state holds for it: a disk that was in another cabinet meanwhile may have another. What follows the label is not
     /// read, so a slot that [`save`](State::save) wrote will do. Done, with no effect and without a look at the bytes,
     /// for a disk that is in reach.
-    ///
-    /// ```
-    /// # use cabinet::{area_length, Refusal, State, SLOT_SIZE};
-    /// let mut area = vec![0; area_length(3, 8).expect("3 disks of 8 blocks")];
-    /// let state = State::format(3, 8, &mut area).state;
-    /// let mut slots = [0; 3 * SLOT_SIZE];
-    /// state.save(&mut slots).outcome()?;
-    /// let slot = |disk: usize| &slots[SLOT_SIZE * disk..];
-    ///
-    /// // Disk 2 is pulled. Disk 1 is pushed into its bay, and then disk 2 itself.
-    /// let pulled = state.detach(2).state;
-    /// assert_eq!(pulled.attach(2, slot(1)).outcome(), Err(Refusal::LabelPlace));
-    /// assert_eq!(pulled.attach(2, slot(2)).state, state);
-    /// # Ok::<(), Refusal>(())
-    /// ```
     ///
     /// Refusals: 1 not sound, 8 no such disk; then, of a disk that is out of reach, those of [`Label::read`], 18 the
     /// label is another disk's, 22 a dirty bit without a region, 25 the label is not the stored one.
@@ -185,7 +160,7 @@ impl State {
         unsafe { cabinet_attach(self, disk, shown.as_ptr(), shown.len()) }
     }
 
-    /// The power goes (the paper's cut). Done, with no effect, for a stopped cabinet.
+    /// The power goes (document 01's cut). Done, with no effect, for a stopped cabinet.
     ///
     /// Refusals: 1 not sound.
     #[inline]
@@ -197,10 +172,11 @@ impl State {
     /// or 3, and the set that a restart would find without the disk. It changes nothing.
     ///
     /// ```
-    /// # use cabinet::{Label, Reason, Refusal, State};
+    /// # use cabinet::{DiskSet, Label, Reason, State};
     /// // Disk 0 is out of reach. It is a member of the set that disk 1 was last in.
-    /// let mut state = State { disks: 2, blocks: 1, online: 2, ..State::default() };
-    /// state.labels[..2].fill(Label { committed: 3, ..Label::default() });
+    /// let (both, second) = (DiskSet::from_bits(0b11), DiskSet::from_bits(0b10));
+    /// let mut state = State { disks: 2, blocks: 1, online: second, ..State::default() };
+    /// state.labels[..2].fill(Label { committed: both, ..Label::default() });
     /// let diagnosis = state.diagnose(3, 1);
     /// assert_eq!((diagnosis.outcome(), diagnosis.reason), (Ok(()), Some(Reason::OutOfReach(0))));
     /// assert_eq!(diagnosis.to_string(), "disk 0 of {0, 1} is out of reach");
@@ -228,7 +204,7 @@ impl State {
     /// then slot by slot 17, 18, 19 and 20 of its label, 18 the label is another disk's, 22 a dirty bit without a
     /// region. Refused, it yields the default state.
     #[inline]
-    pub fn assemble(disks: usize, blocks: usize, online: u8, slots: &[u8]) -> Answer {
+    pub fn assemble(disks: usize, blocks: usize, online: DiskSet, slots: &[u8]) -> Answer {
         // SAFETY: as the module says.
         unsafe { cabinet_assemble(disks, blocks, online, slots.as_ptr(), slots.len()) }
     }

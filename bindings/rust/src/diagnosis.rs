@@ -1,8 +1,9 @@
 //! Why a disk is not current.
 
+use crate::disk_set::DiskSet;
 use crate::label::Label;
 use crate::refusal::{self, Refusal};
-use std::fmt;
+use core::fmt;
 
 /// Why a disk's own set is no candidate of a stage, or that it is one, in the paper's order.
 #[derive(Clone, Copy, Debug, PartialEq, Eq, Hash)]
@@ -58,7 +59,7 @@ pub(crate) struct Told {
     disk: usize,
     refusal: u8,
     reason: u8,
-    set: u8,
+    set: DiskSet,
 }
 
 /// What [`State::diagnose`](crate::State::diagnose) yields. It is shown as a sentence for a mechanic, such as `disk 2
@@ -67,11 +68,11 @@ pub(crate) struct Told {
 #[derive(Clone, Copy, Debug, PartialEq, Eq)]
 pub struct Diagnosis {
     /// The set that the reason speaks of: the disk's [own](Label::own_set).
-    pub own: u8,
+    pub own: DiskSet,
     /// Why this set is no candidate of the stage; none if the call was refused.
     pub reason: Option<Reason>,
-    /// The set that a restart would find now, if it would find one without the disk; otherwise 0.
-    pub set: u8,
+    /// The set that a restart would find now, if it would find one without the disk; otherwise empty.
+    pub set: DiskSet,
     /// 0, or the refusal's number, as in an [`Answer`](crate::Answer).
     refusal: u8,
 }
@@ -81,7 +82,7 @@ impl Diagnosis {
     pub(crate) fn new(label: Option<&Label>, told: Told) -> Diagnosis {
         let asked = label.filter(|_| told.refusal == 0);
         Diagnosis {
-            own: asked.map_or(0, Label::own_set),
+            own: asked.map_or(DiskSet::EMPTY, Label::own_set),
             reason: Reason::of(told.reason, told.disk),
             set: told.set,
             refusal: told.refusal,
@@ -94,22 +95,12 @@ impl Diagnosis {
     }
 }
 
-/// A set of disks as its members in braces.
-struct Members(u8);
-
-impl fmt::Display for Members {
-    fn fmt(&self, f: &mut fmt::Formatter<'_>) -> fmt::Result {
-        let members: Vec<String> = (0..8).filter(|d| self.0 >> d & 1 == 1).map(|d| d.to_string()).collect();
-        write!(f, "{{{}}}", members.join(", "))
-    }
-}
-
 impl fmt::Display for Diagnosis {
     fn fmt(&self, f: &mut fmt::Formatter<'_>) -> fmt::Result {
         if let Err(refusal) = self.outcome() {
             return write!(f, "{refusal}");
         }
-        let own = Members(self.own);
+        let own = self.own;
         match self.reason {
             None => write!(f, "no reason")?,
             Some(Reason::Empty) => write!(f, "the disk has never been a member")?,
@@ -119,8 +110,8 @@ impl fmt::Display for Diagnosis {
             Some(Reason::Candidate) => write!(f, "{own} is a candidate")?,
         }
         match self.set {
-            0 => Ok(()),
-            set => write!(f, "; a restart would find {}", Members(set)),
+            DiskSet::EMPTY => Ok(()),
+            set => write!(f, "; a restart would find {set}"),
         }
     }
 }

@@ -1,24 +1,25 @@
 //! A disk's label, and what reading and writing one yield.
 
+use crate::disk_set::DiskSet;
 use crate::refusal::{self, Refusal};
 
-/// A disk's label. A set of disks is one byte, bit d for disk d.
+/// A disk's label.
 #[repr(C)]
 #[derive(Clone, Copy, Debug, Default, PartialEq, Eq, Hash)]
 pub struct Label {
-    /// The committed set C; 0 if the disk has never been a member.
-    pub committed: u8,
-    /// The tentative set T; 0 for none.
-    pub tentative: u8,
+    /// The committed set C; empty if the disk has never been a member.
+    pub committed: DiskSet,
+    /// The tentative set T; empty for none.
+    pub tentative: DiskSet,
     /// The dirty map, bit r for region r.
     pub dirty: u8,
 }
 
 impl Label {
     /// The disk's own set: "its T if there is one, else its C".
-    pub fn own_set(&self) -> u8 {
+    pub fn own_set(&self) -> DiskSet {
         match self.tentative {
-            0 => self.committed,
+            DiskSet::EMPTY => self.committed,
             tentative => tentative,
         }
     }

@@ -1,11 +1,12 @@
 //! Why a call was refused: the numbers of 'What each call refuses'.
 
-use std::fmt;
+use core::fmt;
 
 /// Makes the enum, its numbers and its texts from one table, so that each refusal is said once.
 macro_rules! refusals {
     ($($number:literal $name:ident $text:literal)*) => {
-        /// Why a call was refused. The cases are the paper's; [`Refusal::number`] gives its number for each.
+        /// Why a call was refused: a number of document 01 or 02, and what it stands for. More will come.
+        #[non_exhaustive]
         #[derive(Clone, Copy, Debug, PartialEq, Eq, Hash)]
         pub enum Refusal {
             $(#[doc = concat!($number, ": ", $text, ".")] $name,)*
@@ -34,7 +35,7 @@ macro_rules! refusals {
             fn text(self) -> &'static str {
                 match self {
                     $(Refusal::$name => $text,)*
-                    Refusal::Unknown(_) => "not a refusal of this call",
+                    Refusal::Unknown(_) => "not a refusal of this library",
                 }
             }
         }
@@ -83,11 +84,19 @@ impl fmt::Display for Refusal {
     }
 }
 
-impl std::error::Error for Refusal {}
+impl core::error::Error for Refusal {}
 
 #[cfg(test)]
 mod tests {
+    extern crate std;
+
     use super::*;
+    use std::format;
+    use std::string::{String, ToString};
+    use std::vec::Vec;
+
+    /// The header of the C library, which has the same table and the same version.
+    const HEADER: &str = include_str!("../../../include/cabinet.h");
 
     #[test]
     fn every_number_keeps_its_value() {
@@ -103,6 +112,43 @@ mod tests {
         let known: Vec<u8> = (0..=255).filter(is_known).collect();
         let papers: Vec<u8> = (1..=25).collect();
         assert_eq!(known, papers);
+    }
+
+    /// A name as the header writes it, such as `NO_SUCH_DISK`.
+    fn name_in_c(refusal: Refusal) -> String {
+        let mut name = String::new();
+        for letter in format!("{refusal:?}").chars() {
+            if letter.is_uppercase() && !name.is_empty() {
+                name.push('_');
+            }
+            name.push(letter.to_ascii_uppercase());
+        }
+        name
+    }
+
+    #[test]
+    fn the_header_has_the_same_numbers_names_and_texts() {
+        let in_c = HEADER.lines().filter_map(|line| line.trim().strip_prefix("LINE("));
+        let in_c: Vec<&str> = in_c.map(|line| line.trim_end_matches([' ', '\\', ')'])).collect();
+        let line = |refusal: Refusal| {
+            let (number, name, text) = (refusal.number(), name_in_c(refusal), refusal.text());
+            format!("{number}, {name}, \"{text}\"")
+        };
+        let ours: Vec<String> = (1..=25).map(|number| line(Refusal::of(number))).collect();
+        assert_eq!(in_c, ours);
+    }
+
+    #[test]
+    fn the_header_has_the_same_version() {
+        let part = |name: &str| {
+            let define = format!("#define CABINET_VERSION_{name} ");
+            HEADER
+                .lines()
+                .find_map(|line| line.strip_prefix(&define))
+                .expect("the header has a version")
+        };
+        let version = [part("MAJOR"), part("MINOR"), part("PATCH")].join(".");
+        assert_eq!(version, env!("CARGO_PKG_VERSION"));
     }
 
     #[test]

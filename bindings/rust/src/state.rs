@@ -1,5 +1,6 @@
 //! The cabinet's state and its size.
 
+use crate::disk_set::DiskSet;
 use crate::label::Label;
 
 /// The bytes of a block.
@@ -39,7 +40,7 @@ pub struct State {
     /// The number of blocks a disk, b.
     pub blocks: u8,
     /// The set of disks in reach, R.
-    pub online: u8,
-    /// The current set, G; 0 when the cabinet is stopped.
-    pub current: u8,
+    pub online: DiskSet,
+    /// The current set, G; empty when the cabinet is stopped.
+    pub current: DiskSet,
 }

@@ -1,11 +1,11 @@
 //! Labels as bytes: the paper's H11 and H12, and each refusal in its order.
 
-use cabinet::{Label, Refusal, Refusal::*};
+use cabinet::{DiskSet, Label, Refusal, Refusal::*};
 
 /// H11's label, of disk 1 of 3.
 const H11: Label = Label {
-    committed: 3,
-    tentative: 0,
+    committed: DiskSet::from_bits(3),
+    tentative: DiskSet::EMPTY,
     dirty: 1,
 };
 
@@ -55,10 +55,9 @@ fn reading_refuses_in_its_order() {
 
 /// Checks that H11's label with these sets is refused so, and that the output stays.
 fn writing_is_refused(refusal: Refusal, sets: (u8, u8), number: usize, disks: usize, length: usize) {
-    let (committed, tentative) = sets;
     let label = Label {
-        committed,
-        tentative,
+        committed: DiskSet::from_bits(sets.0),
+        tentative: DiskSet::from_bits(sets.1),
         ..H11
     };
     let mut output = vec![BEFORE; length];

@@ -1,29 +1,32 @@
 //! The page for the mechanic: each line of its examples is what the library says.
 
-use cabinet::{area_length, Label, Refusal, State};
+use cabinet::{area_length, DiskSet, Label, Refusal, State};
 use returning::returned;
 use std::path::Path;
 
 mod returning;
 
-/// The examples with the labels of their disks, C and T, and the set in reach, as document 01 has them.
-const EXAMPLES: [(&str, [(u8, u8); 3], u8); 3] = [
+/// C and T of each disk.
+type Labels = [(u8, u8); 3];
+
+/// The examples with the labels of their disks and the set in reach, as document 01 has them.
+const EXAMPLES: [(&str, Labels, u8); 3] = [
     ("H2", [(1, 0), (3, 0), (7, 0)], 6),
     ("H6", [(7, 3), (7, 0), (7, 0)], 3),
     ("H8", [(3, 7), (3, 7), (7, 7)], 3),
 ];
 
-fn stopped(labels: [(u8, u8); 3], online: u8) -> State {
+fn stopped(labels: Labels, online: u8) -> State {
     let mut state = State {
         disks: 3,
         blocks: 1,
-        online,
+        online: DiskSet::from_bits(online),
         ..State::default()
     };
     for (label, (committed, tentative)) in state.labels.iter_mut().zip(labels) {
         *label = Label {
-            committed,
-            tentative,
+            committed: DiskSet::from_bits(committed),
+            tentative: DiskSet::from_bits(tentative),
             ..Label::default()
         };
     }
@@ -34,15 +37,10 @@ fn stopped(labels: [(u8, u8); 3], online: u8) -> State {
 fn restarted(state: State) -> String {
     let mut area = vec![0; area_length(3, 1).expect("a cabinet may have 3 disks of 1 block")];
     let answer = state.restart(&mut area, 99);
-    let current = answer.state.current;
-    let members: Vec<String> = (0..3)
-        .filter(|d| current >> d & 1 == 1)
-        .map(|d| d.to_string())
-        .collect();
-    let named = |()| format!("{{{}}}", members.join(", "));
+    let number = |refusal: Refusal| refusal.number().to_string();
     answer
         .outcome()
-        .map_or_else(|refusal| refusal.number().to_string(), named)
+        .map_or_else(number, |()| answer.state.current.to_string())
 }
 
 /// What the library says to the question of a line, such as `stage 1, disk 2`.
@@ -86,6 +84,9 @@ fn each_reason_and_a_refusal_have_their_sentence() {
     let second = texts(stopped([(3, 0), (3, 0), (0, 0)], 7), 2);
     assert_eq!(second[0], "no disk of {0, 1} proposes it");
     let refused = stopped([(3, 0), (3, 0), (0, 0)], 7).diagnose(4, 0);
-    assert_eq!((refused.outcome(), refused.own), (Err(Refusal::NoSuchStage), 0));
+    assert_eq!(
+        (refused.outcome(), refused.own),
+        (Err(Refusal::NoSuchStage), DiskSet::EMPTY)
+    );
     assert_eq!(refused.to_string(), "refused with 23: the stage is not 1, 2 or 3");
 }

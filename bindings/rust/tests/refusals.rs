@@ -1,10 +1,16 @@
 //! Each call's refusals, each alone: the answer is its number, and everything stays as it was.
 
-use cabinet::{Answer, Label, Refusal, State};
+use cabinet::{Answer, DiskSet, Label, Refusal, State};
 use Refusal::*;
 
 /// The length of the area of the cabinets below: 2 disks of 9 blocks.
 const AREA: usize = 2 * 9 * 64;
+
+/// The sets of the disks 0 and 1, and one with a disk that is not there.
+const FIRST: DiskSet = DiskSet::from_bits(1);
+const SECOND: DiskSet = DiskSet::from_bits(2);
+const BOTH: DiskSet = DiskSet::from_bits(3);
+const THIRD: DiskSet = DiskSet::from_bits(4);
 
 /// A call of which only the buffers are left open: the disk area, and the output, data or slots.
 type Call = fn(State, &mut [u8], &mut [u8]) -> Answer;
@@ -12,20 +18,20 @@ type Call = fn(State, &mut [u8], &mut [u8]) -> Answer;
 /// A running cabinet of disks 0 and 1, both current and in reach, with 9 blocks.
 fn running() -> State {
     let mut state = stopped();
-    state.current = 3;
+    state.current = BOTH;
     state
 }
 
 /// The same, stopped.
 fn stopped() -> State {
     let label = Label {
-        committed: 3,
+        committed: BOTH,
         ..Label::default()
     };
     let mut state = State {
         disks: 2,
         blocks: 9,
-        online: 3,
+        online: BOTH,
         ..State::default()
     };
     state.labels[..2].fill(label);
@@ -35,14 +41,14 @@ fn stopped() -> State {
 /// Only disk 1 is current; disk 0 has never been a member.
 fn one_current() -> State {
     let mut state = running();
-    state.current = 2;
-    state.labels[0].committed = 0;
-    state.labels[1].committed = 2;
+    state.current = SECOND;
+    state.labels[0].committed = DiskSet::EMPTY;
+    state.labels[1].committed = SECOND;
     state
 }
 
 /// The state with other disks in reach.
-fn reaching(online: u8, state: State) -> State {
+fn reaching(online: DiskSet, state: State) -> State {
     State { online, ..state }
 }
 
@@ -56,8 +62,8 @@ fn unsound() -> State {
 /// Two disks, each committed to itself alone: H10.
 fn apart() -> State {
     let mut state = stopped();
-    state.labels[0].committed = 1;
-    state.labels[1].committed = 2;
+    state.labels[0].committed = FIRST;
+    state.labels[1].committed = SECOND;
     state
 }
 
@@ -99,9 +105,9 @@ fn read_refuses() {
     keeps_all(BufferLength, read, stopped(), (AREA - 1, 0));
     keeps_all(BlockLength, read, stopped(), (AREA, 63));
     keeps_all(Stopped, beyond, stopped(), (AREA, 64));
-    keeps_all(NoSuchBlock, beyond, reaching(0, running()), (AREA, 64));
-    keeps_all(NoneLive, read, reaching(0, running()), (AREA, 64));
-    let lost = |state| reaching(2, state);
+    keeps_all(NoSuchBlock, beyond, reaching(DiskSet::EMPTY, running()), (AREA, 64));
+    keeps_all(NoneLive, read, reaching(DiskSet::EMPTY, running()), (AREA, 64));
+    let lost = |state| reaching(SECOND, state);
     is_refused(PowerLost, read, lost(running()), lost(stopped()), (AREA, 64));
 }
 
@@ -113,8 +119,8 @@ fn write_refuses() {
     keeps_all(BufferLength, write, stopped(), (AREA - 1, 0));
     keeps_all(BlockLength, write, stopped(), (AREA, 65));
     keeps_all(Stopped, beyond, stopped(), (AREA, 64));
-    keeps_all(NoSuchBlock, beyond, reaching(0, running()), (AREA, 64));
-    keeps_all(NoneLive, write, reaching(0, running()), (AREA, 64));
+    keeps_all(NoSuchBlock, beyond, reaching(DiskSet::EMPTY, running()), (AREA, 64));
+    keeps_all(NoneLive, write, reaching(DiskSet::EMPTY, running()), (AREA, 64));
     is_refused(PowerLost, write, running(), stopped(), (AREA, 64));
 }
 
@@ -127,11 +133,11 @@ fn join_refuses() {
     keeps_all(Stopped, beyond, stopped(), (AREA, 0));
     keeps_all(NoSuchDisk, beyond, running(), (AREA, 0));
     keeps_all(DiskCurrent, join, running(), (AREA, 0));
-    keeps_all(DiskCurrent, join, reaching(0, running()), (AREA, 0));
-    keeps_all(DiskOffline, join, reaching(0, one_current()), (AREA, 0));
-    keeps_all(NoneLive, join, reaching(1, one_current()), (AREA, 0));
+    keeps_all(DiskCurrent, join, reaching(DiskSet::EMPTY, running()), (AREA, 0));
+    keeps_all(DiskOffline, join, reaching(DiskSet::EMPTY, one_current()), (AREA, 0));
+    keeps_all(NoneLive, join, reaching(FIRST, one_current()), (AREA, 0));
     let cut = State {
-        current: 0,
+        current: DiskSet::EMPTY,
         ..one_current()
     };
     is_refused(PowerLost, join, one_current(), cut, (AREA, 0));
@@ -146,8 +152,8 @@ fn swap_refuses() {
     keeps_all(Stopped, beyond, stopped(), (AREA, 0));
     keeps_all(NoSuchDisk, beyond, running(), (AREA, 0));
     keeps_all(DiskOnline, swap, running(), (AREA, 0));
-    keeps_all(NoneLive, swap, reaching(0, running()), (AREA, 0));
-    let lost = |state| reaching(2, state);
+    keeps_all(NoneLive, swap, reaching(DiskSet::EMPTY, running()), (AREA, 0));
+    let lost = |state| reaching(SECOND, state);
     is_refused(PowerLost, swap, lost(running()), lost(stopped()), (AREA, 0));
 }
 
@@ -159,8 +165,8 @@ fn clean_refuses() {
         state
     };
     keeps_all(Unsound, clean, unsound(), (0, 0));
-    keeps_all(Stopped, clean, reaching(0, stopped()), (0, 0));
-    keeps_all(NoneLive, clean, reaching(0, dirty(running())), (0, 0));
+    keeps_all(Stopped, clean, reaching(DiskSet::EMPTY, stopped()), (0, 0));
+    keeps_all(NoneLive, clean, reaching(DiskSet::EMPTY, dirty(running())), (0, 0));
     is_refused(PowerLost, clean, dirty(running()), dirty(stopped()), (0, 0));
 }
 
@@ -170,7 +176,7 @@ fn restart_refuses() {
     keeps_all(Unsound, restart, unsound(), (0, 0));
     keeps_all(BufferLength, restart, running(), (0, 0));
     keeps_all(Running, restart, running(), (AREA, 0));
-    keeps_all(NoSet, restart, reaching(1, stopped()), (AREA, 0));
+    keeps_all(NoSet, restart, reaching(FIRST, stopped()), (AREA, 0));
     keeps_all(SeveralSets, restart, apart(), (AREA, 0));
     keeps_all(PowerLost, restart, stopped(), (AREA, 0));
 }
@@ -209,7 +215,7 @@ fn attach_refuses_what_is_not_the_stored_label() {
         (OtherLabel, &[0, 0x21]),
     ];
     for state in [running(), stopped()] {
-        let away = reaching(1, state);
+        let away = reaching(FIRST, state);
         for (refusal, bytes) in shown {
             let answer = away.attach(1, bytes);
             assert_eq!((answer.outcome(), answer.state), (Err(refusal), away), "{bytes:?}");
@@ -226,7 +232,10 @@ fn attach_refuses_what_is_not_the_stored_label() {
 fn diagnose_refuses() {
     let refused = |state: State, stage, disk| {
         let diagnosis = state.diagnose(stage, disk);
-        assert_eq!((diagnosis.reason, diagnosis.own, diagnosis.set), (None, 0, 0));
+        assert_eq!(
+            (diagnosis.reason, diagnosis.own, diagnosis.set),
+            (None, DiskSet::EMPTY, DiskSet::EMPTY)
+        );
         diagnosis.outcome()
     };
     assert_eq!(refused(unsound(), 0, 2), Err(Unsound));
@@ -247,15 +256,15 @@ fn save_refuses() {
 
 #[test]
 fn assemble_refuses_numbers() {
-    yields_zero(DiskCount, |_, _, slots| State::assemble(9, 0, 4, slots), (0, 0));
-    yields_zero(BlockCount, |_, _, slots| State::assemble(2, 0, 4, slots), (0, 0));
-    yields_zero(BufferLength, |_, _, slots| State::assemble(2, 9, 4, slots), (0, 9));
-    yields_zero(NoSuchDisk, |_, _, slots| State::assemble(2, 9, 4, slots), (0, 10));
+    yields_zero(DiskCount, |_, _, slots| State::assemble(9, 0, THIRD, slots), (0, 0));
+    yields_zero(BlockCount, |_, _, slots| State::assemble(2, 0, THIRD, slots), (0, 0));
+    yields_zero(BufferLength, |_, _, slots| State::assemble(2, 9, THIRD, slots), (0, 9));
+    yields_zero(NoSuchDisk, |_, _, slots| State::assemble(2, 9, THIRD, slots), (0, 10));
 }
 
 #[test]
 fn assemble_refuses_slots() {
-    let refused = |slots: [u8; 10]| State::assemble(2, 9, 3, &slots).outcome();
+    let refused = |slots: [u8; 10]| State::assemble(2, 9, BOTH, &slots).outcome();
     assert_eq!(refused([0, 0x20, 0, 0, 0, 8, 0x21, 0, 0, 0]), Err(LabelMap));
     assert_eq!(refused([0, 0x20, 0, 0, 0, 0, 0x91, 0, 0, 0]), Err(LabelPlace));
     assert_eq!(refused([0, 0x20, 0, 0, 0, 0, 0x20, 0, 0, 0]), Err(LabelPlace));

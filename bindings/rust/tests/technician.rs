@@ -1,6 +1,6 @@
 //! The page for the technician: each line of it is what the library says, and his path holds wherever the power goes.
 
-use cabinet::{area_length, Answer, Label, Refusal, State, BLOCK_SIZE, SLOT_SIZE};
+use cabinet::{area_length, Answer, DiskSet, Label, Refusal, State, BLOCK_SIZE, SLOT_SIZE};
 use returning::returned;
 use std::path::Path;
 
@@ -57,7 +57,7 @@ impl Cabinet {
     /// Each block of each current disk is the book's.
     fn holds_book(&self) -> bool {
         let disks = self.area.chunks(BLOCKS * BLOCK_SIZE).enumerate();
-        let current = disks.filter(|(disk, _)| self.state.current >> disk & 1 == 1);
+        let current = disks.filter(|(disk, _)| self.state.current.contains(*disk));
         current
             .map(|(_, blocks)| blocks.chunks(BLOCK_SIZE))
             .all(|mut blocks| (0..BLOCKS).all(|block| blocks.next() == Some(&book(block)[..])))
@@ -75,29 +75,20 @@ impl Cabinet {
         }
         assert!(self.holds_book());
         let number = |refusal: Refusal| refusal.number().to_string();
-        whole.outcome().map_or_else(number, |()| set(self.state.current))
+        whole.outcome().map_or_else(number, |()| self.state.current.to_string())
     }
 
     /// The path to its end, wherever a finished restart has left it: all disks are current and right.
     fn finish(mut self) {
-        if self.state.current >> DEAD & 1 == 0 {
+        if !self.state.current.contains(DEAD) {
             self.make_all(&PATH);
         }
-        assert!(set(self.state.current) == "{0, 1, 2}" && self.holds_book());
+        assert!(self.state.current == DiskSet::below(DISKS) && self.holds_book());
     }
 }
 
 fn book(block: usize) -> [u8; BLOCK_SIZE] {
     [block as u8 + 1; BLOCK_SIZE]
-}
-
-/// A set as the page writes it.
-fn set(mask: u8) -> String {
-    let members: Vec<String> = (0..DISKS)
-        .filter(|disk| mask >> disk & 1 == 1)
-        .map(|disk| disk.to_string())
-        .collect();
-    format!("{{{}}}", members.join(", "))
 }
 
 /// What a restart gives with disk 2 in, and without it; the path is then gone on with.
@@ -132,7 +123,7 @@ fn each_call_of_the_page_gives_what_it_says() {
         assert_eq!(row[1], format!("`{name} {DEAD}`"));
         let answer = cabinet.make(name, SUPPLY);
         let result = answer.outcome().map_or_else(Refusal::number, |()| 0).to_string();
-        let (current, online) = (set(answer.state.current), set(answer.state.online));
+        let (current, online) = (answer.state.current.to_string(), answer.state.online.to_string());
         assert_eq!(row[2..], [result, answer.stores.to_string(), current, online], "{name}");
     }
     assert!(cabinet.holds_book());
@@ -170,7 +161,7 @@ fn written(label: Label, disk: usize, disks: usize) -> Vec<u8> {
 fn shown(words: &str, old: &State) -> Vec<u8> {
     let (label, neighbour) = (old.labels[DEAD], old.labels[1]);
     let workshop = Label {
-        committed: 1 << DEAD,
+        committed: DiskSet::from_bits(1 << DEAD),
         ..Label::default()
     };
     match words {
@@ -200,7 +191,7 @@ fn each_disk_that_is_pushed_in_gets_what_the_page_says() {
             let mut cabinet = Cabinet::written();
             let old = cabinet.state;
             cabinet.make_all(&PATH[..1]);
-            cabinet.make("swap", supply);
+            let _ = cabinet.make("swap", supply);
             let answer = cabinet.state.attach(DEAD, &shown(&row[0], &old));
             let result = answer.outcome().map_or_else(Refusal::number, |()| 0);
             assert_eq!(result.to_string(), *expected, "{} with {supply}", row[0]);

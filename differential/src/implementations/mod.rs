@@ -1,16 +1,18 @@
 //! The implementations that are compared: each makes a case's call, and says what it gave.
 
+mod convert;
 mod guarded;
 mod oracle;
 mod plain;
 mod proved;
 
+pub use convert::to_reference;
 pub use oracle::Reference;
 pub use plain::Plain;
 pub use proved::{from_product, to_product, told_by_product, Proved};
 
 use crate::case::Case;
-use reference::plain::{Diagnosis, Reading, State};
+use ::plain::{Diagnosis, Reading, State};
 
 /// What a call gave: everything that can differ.
 #[derive(Clone, Debug, PartialEq, Eq)]

@@ -1,11 +1,12 @@
 //! The reference, which decides what is right.
 
+use super::convert::{from_reference, label_to_reference, reading_from_reference, to_reference, told_by_reference};
 use super::{written, Implementation, Outcome};
 use crate::case::{Call, Case};
+use plain::{Diagnosis, Reading};
 use reference::cabinet::{fresh, Answer, Cabinet};
 use reference::diagnosis::diagnose;
 use reference::mistakes::Rules;
-use reference::plain::{Diagnosis, Reading};
 use reference::sets::DiskSet;
 use reference::{label, slots, state};
 
@@ -18,7 +19,7 @@ impl Implementation for Reference {
     }
 
     fn make(&self, case: Case) -> Outcome {
-        let (rules, state, supply) = (self.0, case.state.into(), case.supply);
+        let (rules, state, supply) = (self.0, to_reference(case.state), case.supply);
         let (mut buffer, area) = (case.buffer, case.area);
         let (disks, blocks, number) = (narrow(case.disks), narrow(case.blocks), narrow(case.number));
         let mut cabinet = Cabinet { rules, state, area };
@@ -36,7 +37,7 @@ impl Implementation for Reference {
             Call::Cut => cabinet.cut(),
             Call::Diagnose => {
                 let (stage, disk) = (wide(case.stage), wide(case.number));
-                told = diagnose(rules, &cabinet.state, stage, disk).into();
+                told = told_by_reference(diagnose(rules, &cabinet.state, stage, disk));
                 cabinet.take(&reference::call::Call::Diagnose { stage, disk }, &mut buffer)
             }
             Call::Save => slots::save(rules, &cabinet.state, &mut buffer),
@@ -47,16 +48,16 @@ impl Implementation for Reference {
                     slots::assemble(rules, disks, blocks, reach, &buffer),
                 )
             }
-            Call::ReadLabel => yielded(&mut reading, label::read(&buffer).map(Reading::from)),
+            Call::ReadLabel => yielded(&mut reading, label::read(&buffer).map(reading_from_reference)),
             Call::WriteLabel => {
-                let length = label::write(number, disks, &case.label.into(), &mut buffer);
+                let length = label::write(number, disks, &label_to_reference(case.label), &mut buffer);
                 yielded(&mut reading, length.map(written))
             }
         };
         Outcome {
             result: answer.result,
             stores: answer.stores,
-            state: cabinet.state.into(),
+            state: from_reference(cabinet.state),
             area: cabinet.area,
             buffer,
             reading,

@@ -2,9 +2,9 @@
 
 use super::{written, Implementation, Outcome};
 use crate::case::{Call, Case};
-use reference::plain::{self, Answer, Diagnosis, Reading, State};
+use plain::{Answer, Diagnosis, Reading, State};
 
-/// The module `plain` of the reference.
+/// The package `plain`.
 pub struct Plain;
 
 impl Implementation for Plain {

@@ -3,8 +3,8 @@
 use super::guarded::Guarded;
 use super::{written, Implementation, Outcome};
 use crate::case::{Call, Case};
-use cabinet::{Reason, Refusal};
-use reference::plain::{Diagnosis, Label, Reading, State};
+use cabinet::{DiskSet, Reason, Refusal};
+use plain::{Diagnosis, Label, Reading, State};
 
 /// The proved product.
 pub struct Proved;
@@ -31,7 +31,10 @@ impl Implementation for Proved {
             Call::Cut => state.power_off(),
             Call::Diagnose => return diagnose(case),
             Call::Save => state.save(buffer),
-            Call::Assemble => cabinet::State::assemble(case.disks, case.blocks, case.reach, buffer),
+            Call::Assemble => {
+                let reach = DiskSet::from_bits(case.reach);
+                cabinet::State::assemble(case.disks, case.blocks, reach, buffer)
+            }
             Call::ReadLabel => return read_label(&case),
             Call::WriteLabel => return write_label(&case),
         };
@@ -108,7 +111,7 @@ pub fn told_by_product(diagnosis: cabinet::Diagnosis) -> Diagnosis {
         result: number(diagnosis.outcome()),
         reason: diagnosis.reason.map_or(0, Reason::number),
         disk: u8::try_from(disk).expect("a cabinet has at most 8 disks"),
-        set: diagnosis.set,
+        set: diagnosis.set.bits(),
     }
 }
 
@@ -117,8 +120,8 @@ pub fn to_product(state: State) -> cabinet::State {
     cabinet::State {
         disks: state.disks,
         blocks: state.blocks,
-        online: state.reach,
-        current: state.current,
+        online: DiskSet::from_bits(state.reach),
+        current: DiskSet::from_bits(state.current),
         labels: state.labels.map(label_to_product),
     }
 }
@@ -128,8 +131,8 @@ pub fn from_product(state: cabinet::State) -> State {
     State {
         disks: state.disks,
         blocks: state.blocks,
-        reach: state.online,
-        current: state.current,
+        reach: state.online.bits(),
+        current: state.current.bits(),
         labels: state.labels.map(label_from_product),
     }
 }
@@ -137,8 +140,8 @@ pub fn from_product(state: cabinet::State) -> State {
 /// The label in the product's form.
 fn label_to_product(label: Label) -> cabinet::Label {
     cabinet::Label {
-        committed: label.committed,
-        tentative: label.tentative,
+        committed: DiskSet::from_bits(label.committed),
+        tentative: DiskSet::from_bits(label.tentative),
         dirty: label.dirty,
     }
 }
@@ -146,8 +149,8 @@ fn label_to_product(label: Label) -> cabinet::Label {
 /// The label from the product's form.
 fn label_from_product(label: cabinet::Label) -> Label {
     Label {
-        committed: label.committed,
-        tentative: label.tentative,
+        committed: label.committed.bits(),
+        tentative: label.tentative.bits(),
         dirty: label.dirty,
     }
 }

@@ -1,12 +1,11 @@
 //! The saved form: "each disk has a slot of 5 bytes, the rest of the slot zero".
 
-use super::answer::{refuse, Answer};
-use super::fresh::blank;
-use super::label::{fill_slot, read_in_bay};
-use super::sets::below;
-use super::state::State;
+use crate::answer::{refuse, Answer};
+use crate::fresh::blank;
+use crate::label::{fill_slot, read_in_bay};
 use crate::refusal::*;
-use crate::slots::SLOT;
+use crate::sets::below;
+use crate::state::{State, SLOT};
 
 /// Save: 1, 2.
 pub fn save(state: State, slots: &mut [u8]) -> Answer {

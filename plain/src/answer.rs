@@ -1,6 +1,6 @@
 //! What a call gives.
 
-use super::state::State;
+use crate::state::State;
 
 /// What a call gives.
 #[derive(Clone, Copy, Debug, PartialEq, Eq)]
@@ -15,7 +15,7 @@ pub struct Answer {
 
 impl Answer {
     /// The answer of a call without counted stores: done, or refused.
-    pub(super) fn of(result: u8, state: State) -> Answer {
+    pub(crate) fn of(result: u8, state: State) -> Answer {
         Answer {
             result,
             stores: 0,
@@ -25,7 +25,7 @@ impl Answer {
 }
 
 /// Refuses with the number if the condition holds.
-pub(super) fn refuse(number: u8, condition: bool) -> Result<(), u8> {
+pub(crate) fn refuse(number: u8, condition: bool) -> Result<(), u8> {
     if condition {
         Err(number)
     } else {

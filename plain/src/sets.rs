@@ -1,7 +1,7 @@
 //! Sets of disks, and of regions: one byte, a bit for each.
 
 /// The numbers below `count`, all eight from 8 up.
-pub(super) fn below(count: u8) -> u8 {
+pub(crate) fn below(count: u8) -> u8 {
     match count {
         0..8 => (1 << count) - 1,
         _ => u8::MAX,
@@ -9,27 +9,27 @@ pub(super) fn below(count: u8) -> u8 {
 }
 
 /// Whether the number, which is below 8, is in the set.
-pub(super) fn has(set: u8, number: usize) -> bool {
+pub(crate) fn has(set: u8, number: usize) -> bool {
     set >> number & 1 == 1
 }
 
 /// "The lowest member is the one with the smallest number"; 8 of an empty set.
-pub(super) fn lowest(set: u8) -> usize {
+pub(crate) fn lowest(set: u8) -> usize {
     set.trailing_zeros() as usize
 }
 
 /// The set without its lowest member.
-pub(super) fn without_lowest(set: u8) -> u8 {
+pub(crate) fn without_lowest(set: u8) -> u8 {
     set & set.wrapping_sub(1)
 }
 
 /// The members, ascending.
-pub(super) fn members(set: u8) -> Members {
+pub(crate) fn members(set: u8) -> Members {
     Members(set)
 }
 
 /// The members that are still to come.
-pub(super) struct Members(u8);
+pub(crate) struct Members(u8);
 
 impl Iterator for Members {
     type Item = usize;

@@ -1,7 +1,13 @@
 //! A state without an enum, and when it is sound.
 
-use super::sets::{below, has, members};
-use crate::state::{regions, BLOCK};
+use crate::sets::{below, has, members};
+
+/// The bytes of a block.
+pub const BLOCK: usize = 64;
+/// The blocks of a region.
+pub(crate) const REGION: u8 = 8;
+/// The bytes of a slot.
+pub const SLOT: usize = 5;
 
 /// A disk's label.
 #[derive(Clone, Copy, Debug, Default, PartialEq, Eq)]
@@ -31,32 +37,32 @@ pub struct State {
 
 impl State {
     /// "L means the members of G that are in reach."
-    pub(super) fn live(&self) -> u8 {
+    pub(crate) fn live(&self) -> u8 {
         self.current & self.reach
     }
 
     /// "Exactly n × b × 64 bytes."
-    pub(super) fn area_length(&self) -> usize {
+    pub(crate) fn area_length(&self) -> usize {
         usize::from(self.disks) * usize::from(self.blocks) * BLOCK
     }
 
     /// "Block k of disk d starts at (d × b + k) × 64."
-    pub(super) fn block_start(&self, disk: usize, block: usize) -> usize {
+    pub(crate) fn block_start(&self, disk: usize, block: usize) -> usize {
         (disk * usize::from(self.blocks) + block) * BLOCK
     }
 
     /// The regions that exist, bit r for region r.
-    pub(super) fn region_map(&self) -> u8 {
-        below(regions(self.blocks))
+    pub(crate) fn region_map(&self) -> u8 {
+        below(self.blocks.div_ceil(REGION))
     }
 
     /// The regions that are dirty on any disk of the set.
-    pub(super) fn dirty_regions(&self, set: u8) -> u8 {
+    pub(crate) fn dirty_regions(&self, set: u8) -> u8 {
         members(set).fold(0, |map, disk| map | self.labels[disk].dirty)
     }
 
     /// "A state is sound when".
-    pub(super) fn is_sound(&self) -> bool {
+    pub(crate) fn is_sound(&self) -> bool {
         (1..=8).contains(&self.disks)
             && (1..=64).contains(&self.blocks)
             && (self.reach | self.current) & !below(self.disks) == 0
@@ -83,6 +89,6 @@ impl State {
 }
 
 /// Whether a C or T of this disk is 0, or names only disks below n and its own disk too.
-pub(super) fn names_rightly(set: u8, disk: usize, disks: u8) -> bool {
+pub(crate) fn names_rightly(set: u8, disk: usize, disks: u8) -> bool {
     set == 0 || set & !below(disks) == 0 && has(set, disk)
 }

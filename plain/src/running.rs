@@ -1,11 +1,10 @@
 //! The calls of a running cabinet: read, write, join and quiet.
 
-use super::answer::{refuse, Answer};
-use super::sets::{has, lowest, members};
-use super::state::State;
-use super::stores::{carry_out, move_to, move_to_live, turn_dirty, Ended};
+use crate::answer::{refuse, Answer};
 use crate::refusal::*;
-use crate::state::{BLOCK, REGION};
+use crate::sets::{has, lowest, members};
+use crate::state::{State, BLOCK, REGION};
+use crate::stores::{carry_out, move_to, move_to_live, turn_dirty, Ended};
 
 /// Read: 1, 2, 3, 6, 9, 12, 15. "A read with L different from G now moves to L before it copies the block", that of the
 /// lowest member of L. Most reads find L = G, and have no stores to carry out.

@@ -1,12 +1,11 @@
 //! Restart.
 
-use super::answer::{refuse, Answer};
-use super::naming::named;
-use super::sets::{lowest, members, without_lowest};
-use super::state::State;
-use super::stores::{carry_out, commit, on_each, Ended, Supply};
+use crate::answer::{refuse, Answer};
+use crate::naming::named;
 use crate::refusal::{RUNNING, UNSOUND, WRONG_LENGTH};
-use crate::state::{BLOCK, REGION};
+use crate::sets::{lowest, members, without_lowest};
+use crate::state::{State, BLOCK, REGION};
+use crate::stores::{carry_out, commit, on_each, Ended, Supply};
 
 /// Restart: 1, 2, 7, 13, 14, 15. "At the end store C = S and T = 0 on every member, ascending. Then run with G = S."
 pub fn restart(state: State, area: &mut [u8], supply: u16) -> Answer {

@@ -1,9 +1,8 @@
 //! A label as bytes.
 
-use super::answer::refuse;
-use super::state::{names_rightly, Label};
+use crate::answer::refuse;
 use crate::refusal::*;
-use crate::slots::SLOT;
+use crate::state::{names_rightly, Label, SLOT};
 
 /// What reading yields.
 #[derive(Clone, Copy, Debug, Default, PartialEq, Eq)]
@@ -55,7 +54,7 @@ pub fn read_label(bytes: &[u8]) -> Result<Reading, u8> {
 /// refusal; 18, its number or n is not this slot's; 22, a dirty bit names no region". Always inlined, since assembling
 /// knows how long a slot is, and then no byte's presence is tested.
 #[inline(always)]
-pub(super) fn read_in_bay(bytes: &[u8], numbers: u8, regions: u8) -> Result<Label, u8> {
+pub(crate) fn read_in_bay(bytes: &[u8], numbers: u8, regions: u8) -> Result<Label, u8> {
     let label = read_label(bytes)?.label;
     refuse(LABEL_NUMBERS, bytes[1] != numbers)?;
     refuse(NO_SUCH_REGION, label.dirty & !regions != 0)?;
@@ -78,7 +77,7 @@ pub fn write_label(output: &mut [u8], disk: usize, disks: usize, label: &Label) 
 /// Fills a slot, whose second byte is given, and yields the label's length. A field of 0 is put down too, and the next
 /// one in its place.
 #[inline]
-pub(super) fn fill_slot(numbers: u8, label: &Label, slot: &mut [u8; SLOT]) -> usize {
+pub(crate) fn fill_slot(numbers: u8, label: &Label, slot: &mut [u8; SLOT]) -> usize {
     *slot = [0, numbers, 0, 0, 0];
     let mut end = 2;
     for (bit, field) in [label.committed, label.tentative, label.dirty].into_iter().enumerate() {

@@ -1,17 +1,22 @@
-//! The calls once more, for speed: what an engineer writes who has the paper and no proofs. The benchmark compares the
-//! proved product with it.
+//! The calls of document 01, and of document 02's requests 2.1 to 2.6, for speed: what an engineer writes who has the
+//! papers and no proofs. The benchmark times the proved product beside it. It shares no code with the product, and none
+//! with the reference, which the differential tests hold it to.
 //!
 //! It keeps the paper's method: the same stores in the same order, counted one by one. Stores of blocks that are
 //! neighbours both in the list and in the area go to one copy. Numbers, states and buffers may be anything: what does
 //! not fit is refused. Nothing is allocated, and every index is checked.
 
+#![no_std]
+#![forbid(unsafe_code)]
+#![warn(missing_docs)]
+
 mod answer;
-mod convert;
 mod diagnosis;
 mod fresh;
 mod label;
 mod naming;
 mod reach;
+pub mod refusal;
 mod restart;
 mod running;
 mod sets;
@@ -28,5 +33,5 @@ pub use reach::{cut, give_back, lose};
 pub use restart::restart;
 pub use running::{join, quiet, read, write};
 pub use slots::{assemble, save};
-pub use state::{Label, State};
+pub use state::{Label, State, BLOCK, SLOT};
 pub use swap::swap;

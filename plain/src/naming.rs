@@ -1,12 +1,12 @@
 //! 'Which set a restart names', by the sets that stand in the labels.
 
-use super::sets::members;
-use super::state::{Label, State};
 use crate::refusal::{NO_CANDIDATE, SEVERAL_CANDIDATES};
+use crate::sets::members;
+use crate::state::{Label, State};
 
 /// The set S, or 13 or 14: "the first stage with a candidate decides". Mostly no disk has a T, and then the first two
 /// stages have nothing to try.
-pub(super) fn named(state: &State) -> Result<u8, u8> {
+pub(crate) fn named(state: &State) -> Result<u8, u8> {
     let (tentative, committed) = (|label: &Label| label.tentative, |label: &Label| label.committed);
     let proposes = |label: &Label, x| label.tentative == x;
     let has_committed = |label: &Label, x| label.committed == x;

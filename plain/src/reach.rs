@@ -1,10 +1,10 @@
 //! "Lose, return and cut change only R or the power condition."
 
-use super::answer::{refuse, Answer};
-use super::label::read_in_bay;
-use super::sets::has;
-use super::state::State;
+use crate::answer::{refuse, Answer};
+use crate::label::read_in_bay;
 use crate::refusal::{DONE, LABEL_DIFFERS, NO_SUCH_DISK, UNSOUND};
+use crate::sets::has;
+use crate::state::State;
 
 /// Lose: 1, 8.
 pub fn lose(state: State, disk: usize) -> Answer {

@@ -1,9 +1,9 @@
 //! Fresh, and the beginning of a state that a call makes.
 
-use super::answer::{refuse, Answer};
-use super::sets::below;
-use super::state::{Label, State};
+use crate::answer::{refuse, Answer};
 use crate::refusal::{BLOCK_COUNT, DISK_COUNT, DONE, WRONG_LENGTH};
+use crate::sets::below;
+use crate::state::{Label, State};
 
 /// Fresh: 4, 5, 2. "It gives all disks in reach, running, C naming all n, T and dirty 0, all blocks zero, no counted
 /// stores." Refused, it yields the state that is all zero and stopped.
@@ -30,7 +30,7 @@ fn fresh_state(disks: usize, blocks: usize, area: usize) -> Result<State, u8> {
 }
 
 /// A stopped state of n disks that were never used, none in reach: 4, 5.
-pub(super) fn blank(disks: usize, blocks: usize) -> Result<State, u8> {
+pub(crate) fn blank(disks: usize, blocks: usize) -> Result<State, u8> {
     refuse(DISK_COUNT, !(1..=8).contains(&disks))?;
     refuse(BLOCK_COUNT, !(1..=64).contains(&blocks))?;
     Ok(State {

@@ -1,10 +1,10 @@
 //! Request 2.2, 'Tell me why this disk is not current'.
 
-use super::answer::refuse;
-use super::naming::named;
-use super::sets::{has, lowest, members};
-use super::state::State;
+use crate::answer::refuse;
+use crate::naming::named;
 use crate::refusal::{DONE, NO_SUCH_DISK, NO_SUCH_STAGE, RUNNING, UNSOUND};
+use crate::sets::{has, lowest, members};
+use crate::state::State;
 
 /// The reasons, in the paper's order. 0 is none.
 const EMPTY: u8 = 1;

@@ -1,10 +1,10 @@
 //! Request 2.5, 'A blank disk in an old bay'.
 
-use super::answer::{refuse, Answer};
-use super::sets::has;
-use super::state::{Label, State};
-use super::stores::{carry_out, move_to};
+use crate::answer::{refuse, Answer};
 use crate::refusal::{IN_REACH, NONE_LIVE, NO_SUCH_DISK, STOPPED, UNSOUND, WRONG_LENGTH};
+use crate::sets::has;
+use crate::state::{Label, State};
+use crate::stores::{carry_out, move_to};
 
 /// Swap: 1, 2, 6, 8, 24, "then 12 where d is in G, then 15". After the move, if there is one, "d has an empty label,
 /// zero blocks (no counted stores)".

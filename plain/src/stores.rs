@@ -1,25 +1,25 @@
 //! "Each call that changes disks is a list of stores", made one by one as long as the supply lasts.
 
-use super::answer::Answer;
-use super::sets::members;
-use super::state::{Label, State};
+use crate::answer::Answer;
 use crate::refusal::{DONE, SUPPLY_ENDED};
+use crate::sets::members;
+use crate::state::{Label, State};
 
 /// The list is longer than the supply.
-pub(super) struct Ended;
+pub(crate) struct Ended;
 
 /// The stores that may still be made.
-pub(super) struct Supply(u16);
+pub(crate) struct Supply(u16);
 
 impl Supply {
     /// Spends one store.
-    pub(super) fn take(&mut self) -> Result<(), Ended> {
+    pub(crate) fn take(&mut self) -> Result<(), Ended> {
         self.0 = self.0.checked_sub(1).ok_or(Ended)?;
         Ok(())
     }
 
     /// Spends what is left of `count` stores, and says how many these are.
-    pub(super) fn take_up_to(&mut self, count: u8) -> u8 {
+    pub(crate) fn take_up_to(&mut self, count: u8) -> u8 {
         let taken = self.0.min(count.into()) as u8;
         self.0 -= u16::from(taken);
         taken
@@ -29,7 +29,7 @@ impl Supply {
 /// "If the list is longer than the supply, exactly the first supply stores are made, the cabinet is stopped, and the
 /// result is 15 with that count. Otherwise all are made", and the cabinet runs with the set that the list yields. The
 /// list is made for the set that the call found, unless it refused.
-pub(super) fn carry_out(
+pub(crate) fn carry_out(
     state: State,
     found: Result<u8, u8>,
     supply: u16,
@@ -50,7 +50,7 @@ pub(super) fn carry_out(
 }
 
 /// One store on the label of each disk of the set, ascending.
-pub(super) fn on_each(
+pub(crate) fn on_each(
     state: &mut State,
     set: u8,
     supply: &mut Supply,
@@ -64,7 +64,7 @@ pub(super) fn on_each(
 }
 
 /// "Store C = S and T = 0 on every member, ascending."
-pub(super) fn commit(state: &mut State, set: u8, supply: &mut Supply) -> Result<(), Ended> {
+pub(crate) fn commit(state: &mut State, set: u8, supply: &mut Supply) -> Result<(), Ended> {
     on_each(state, set, supply, |label| {
         label.committed = set;
         label.tentative = 0;
@@ -73,13 +73,13 @@ pub(super) fn commit(state: &mut State, set: u8, supply: &mut Supply) -> Result<
 
 /// "Moving to set S: for each disk of S, ascending, store T = S; then for each disk of S, ascending, store C = S and
 /// T = 0."
-pub(super) fn move_to(state: &mut State, set: u8, supply: &mut Supply) -> Result<(), Ended> {
+pub(crate) fn move_to(state: &mut State, set: u8, supply: &mut Supply) -> Result<(), Ended> {
     on_each(state, set, supply, |label| label.tentative = set)?;
     commit(state, set, supply)
 }
 
 /// "If L differs from G, move to L."
-pub(super) fn move_to_live(state: &mut State, supply: &mut Supply) -> Result<(), Ended> {
+pub(crate) fn move_to_live(state: &mut State, supply: &mut Supply) -> Result<(), Ended> {
     match state.live() {
         live if live == state.current => Ok(()),
         live => move_to(state, live, supply),
@@ -87,7 +87,7 @@ pub(super) fn move_to_live(state: &mut State, supply: &mut Supply) -> Result<(),
 }
 
 /// Sets or clears the dirty bit on each disk of the set, ascending, where it stands otherwise.
-pub(super) fn turn_dirty(state: &mut State, set: u8, bit: u8, on: bool, supply: &mut Supply) -> Result<(), Ended> {
+pub(crate) fn turn_dirty(state: &mut State, set: u8, bit: u8, on: bool, supply: &mut Supply) -> Result<(), Ended> {
     for disk in members(set) {
         let label = &mut state.labels[disk];
         if (label.dirty & bit != 0) != on {
