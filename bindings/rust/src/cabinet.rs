@@ -6,6 +6,7 @@ use crate::disk_set::DiskSet;
 use crate::error::Error;
 use crate::refusal::Refusal;
 use crate::state::{area_length, State, BLOCK_SIZE};
+use core::fmt;
 
 /// A cabinet: its state and its disk area, which only its calls change.
 ///
@@ -27,7 +28,6 @@ use crate::state::{area_length, State, BLOCK_SIZE};
 /// let cabinet = Cabinet::format(3, 8, vec![0; area_length(3, 8).unwrap()]).unwrap();
 /// let older = cabinet.clone(); // a cabinet is not copied
 /// ```
-#[derive(Debug)]
 pub struct Cabinet<A> {
     state: State,
     area: A,
@@ -187,5 +187,14 @@ impl<A: AsRef<[u8]> + AsMut<[u8]>> Cabinet<A> {
     fn keep(&mut self, answer: Answer) -> Result<u16, Error> {
         self.state = answer.state;
         answer.result()
+    }
+}
+
+/// Shows the state. The area may have thousands of bytes.
+impl<A> fmt::Debug for Cabinet<A> {
+    fn fmt(&self, f: &mut fmt::Formatter<'_>) -> fmt::Result {
+        f.debug_struct("Cabinet")
+            .field("state", &self.state)
+            .finish_non_exhaustive()
     }
 }

@@ -50,8 +50,8 @@
 //! exactly what the definition of its call says: the refusal, the stores made, the state and every byte of the buffers,
 //! after a cut too. Of the definitions it is proved that for any calls from a format on, the power going after any
 //! store: each finished restart names disks that all hold the right blocks; none finds two sets; and a restart with
-//! every disk in reach finds one. The right blocks are those of the writes that were done; a cut write counts once its
-//! block is on the lowest disk.
+//! every disk in reach finds one, and finishes if the budget is enough. The right blocks are those of the writes that
+//! were done; a cut write counts once its block is on the lowest of its disks.
 //!
 //! Not proved is this crate: that it declares the functions as they are, and hands on what it is given and gets. All
 //! its unsafe code is in one module. Nothing is allocated, and only `core` is used.
