@@ -1,4 +1,5 @@
-/* A cabinet of 3 disks of 8 blocks: a write, a write that loses its power halfway, a restart and a read. */
+/* A cabinet of 3 disks of 8 blocks: a write, a write that loses its power after one store, a restart and a read. The
+   region is dirty from the first write, so that one store is the new block on disk 0: the second write counts. */
 #include "cabinet.h"
 #include <stdio.h>
 #include <stdlib.h>

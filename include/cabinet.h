@@ -14,14 +14,18 @@
  * state that the last one yielded. The library keeps nothing and allocates nothing, so calls on different cabinets may
  * run at once.
  *
- * The budget is the number of stores that the power lasts for. If a call has more to make, exactly the first so many
- * are made, the cabinet is stopped, and the answer is refusal 15 with their number. Any other refusal gives its number,
- * 0 stores and the state that was given, and leaves the buffers; cabinet_format and cabinet_assemble, which are given
- * no state, then yield one that is all zero. A done call has refusal 0.
+ * The budget is the number of stores that the power lasts for; no call has more than 520 to make. If a call has more
+ * than the budget, exactly the first so many are made, the cabinet is stopped, and the answer is refusal 15 with their
+ * number. Any other refusal gives its number, 0 stores and the state that was given, and leaves the buffers;
+ * cabinet_format and cabinet_assemble, which are given no state, then yield one that is all zero. A done call has
+ * refusal 0.
  *
- * Any state may be passed: one that is not sound is refused with 1. A stopped cabinet is written current == 0. Any
- * other writing is not a stopped cabinet's: it is read as a running one's, with current as its current set, and refused
- * with 1 unless that is sound. A state is sound when disks is 1 to 8 and blocks 1 to 64; all sets name only disks below
+ * So the power goes where the budget says, and nowhere else. A process that dies inside a call is not covered: the area
+ * may have changed, and the labels that go with it were not yet given back. Who keeps a cabinet beyond its process
+ * keeps area and labels of the same moment, after a call.
+ *
+ * Any state may be passed: one that is not sound is refused with 1. A cabinet with current == 0 is stopped; with any
+ * other it runs with that set. A state is sound when disks is 1 to 8 and blocks 1 to 64; all sets name only disks below
  * disks; a committed or tentative set that is not 0 names its own disk; dirty bits name existing regions; labels from
  * disks up are all zero; and, when it runs, each current disk has the current set as its committed one and no tentative
  * one.
@@ -206,25 +210,38 @@ enum cabinet_reason {
     CABINET_CANDIDATE = 5      /* it is a candidate */
 };
 
+/* An answer that is dropped is a state that is lost. */
+#ifdef __GNUC__
+#define CABINET_MUST_USE __attribute__((warn_unused_result))
+#else
+#define CABINET_MUST_USE
+#endif
+
 /* A new cabinet: it runs, all disks are online and current, nothing is dirty, the area is all zero; 0 stores.
    Refuses: 4, 5, 2. */
+CABINET_MUST_USE
 struct cabinet_answer cabinet_format(size_t disks, size_t blocks, uint8_t *area, size_t area_length);
 
 /* Copies the block from the lowest current disk that is online to the output. If some current disk is not online, it
    first moves to those that are, 2 stores a disk: they alone are current then. Else it makes no store, and a budget of
    0 will do. If the power is lost the output stays as it was.
    Refuses: 1, 2, 3, 6, 9, 12, 15. */
+CABINET_MUST_USE
 struct cabinet_answer cabinet_read(struct cabinet_state state, const uint8_t *area, size_t area_length, size_t block,
                                    uint8_t *output, size_t output_length, uint16_t budget);
 
-/* Moves as a read does, then marks the block's region dirty, then stores the data as the block, on each current disk
-   that is online: at most 4 stores a disk.
+/* Moves as a read does, then marks the block's region dirty on each current disk online where it is not, then stores
+   the data as the block on each of these disks, the lowest first: at most 4 stores a disk. If the power is lost, the
+   write counts from the block store on the lowest on: a restart then gives all disks the new block, and before that the
+   old one.
    Refuses: 1, 2, 3, 6, 9, 12, 15. */
+CABINET_MUST_USE
 struct cabinet_answer cabinet_write(struct cabinet_state state, uint8_t *area, size_t area_length, size_t block,
                                     const uint8_t *data, size_t data_length, uint16_t budget);
 
 /* Makes the disk current: moves as a read does, copies all blocks to the disk, then moves to the set with the disk.
    Refuses: 1, 2, 6, 8, 11, 10, 12, 15: a current disk gives 11, online or not. */
+CABINET_MUST_USE
 struct cabinet_answer cabinet_join(struct cabinet_state state, uint8_t *area, size_t area_length, size_t disk,
                                    uint16_t budget);
 
@@ -233,20 +250,24 @@ struct cabinet_answer cabinet_join(struct cabinet_state state, uint8_t *area, si
    online; else it makes no store, and a budget of 0 will do. The new disk is not online: attach it by its empty label,
    then join it. If the power is lost the old disk is still in, its label and its blocks as they were.
    Refuses: 1, 2, 6, 8, 24, 12 (only if the disk is current), 15. */
+CABINET_MUST_USE
 struct cabinet_answer cabinet_swap(struct cabinet_state state, uint8_t *area, size_t area_length, size_t disk,
                                    uint16_t budget);
 
 /* Clears the dirty bits of the current disks that are online: a restart copies only dirty regions.
    Refuses: 1, 6, 12, 15. */
+CABINET_MUST_USE
 struct cabinet_answer cabinet_clean(struct cabinet_state state, uint16_t budget);
 
 /* Starts a stopped cabinet: finds the set that the labels of the disks online name, copies each region that is dirty on
-   one of its disks from the lowest to the others and clears the bits, and runs with the set.
+   one of its disks from the lowest to the others and clears the bits, commits the set on each, and runs with it.
    Refuses: 1, 2, 7, 13, 14, 15. */
+CABINET_MUST_USE
 struct cabinet_answer cabinet_restart(struct cabinet_state state, uint8_t *area, size_t area_length, uint16_t budget);
 
 /* Takes the disk out of the set online, whether it was in it or not; 0 stores.
    Refuses: 1, 8. */
+CABINET_MUST_USE
 struct cabinet_answer cabinet_detach(struct cabinet_state state, size_t disk);
 
 /* Puts the disk into the set online; 0 stores. If it is still in the current set, it is current again. The disk shows
@@ -255,26 +276,31 @@ struct cabinet_answer cabinet_detach(struct cabinet_state state, size_t disk);
    read, so a slot that cabinet_save wrote will do. If the disk is online already it is done, with no effect, and the
    bytes are not looked at.
    Refuses: 1, 8; then, of a disk that is not online, what cabinet_read_label refuses, 18 (not its bay's), 22, 25. */
+CABINET_MUST_USE
 struct cabinet_answer cabinet_attach(struct cabinet_state state, size_t disk, const uint8_t *shown,
                                      size_t shown_length);
 
 /* Stops the cabinet, if it is not stopped; 0 stores.
    Refuses: 1. */
+CABINET_MUST_USE
 struct cabinet_answer cabinet_power_off(struct cabinet_state state);
 
 /* Why the disk of a stopped cabinet is not current: what keeps its own set from being a candidate of the stage. In
    stage 1 every disk of the set must have it as its tentative set; in stage 2 every one as its tentative or its
    committed set, and some as its tentative one; in stage 3 every one as its committed set. It changes nothing.
    Refuses: 1, 7, 8, 23. */
+CABINET_MUST_USE
 struct cabinet_diagnosis cabinet_diagnose(struct cabinet_state state, size_t stage, size_t disk);
 
 /* Writes each disk's label into its slot of 5 bytes, the rest of the slot zero; 0 stores, and the state as given.
    Refuses: 1, 2. */
+CABINET_MUST_USE
 struct cabinet_answer cabinet_save(struct cabinet_state state, uint8_t *slots, size_t slots_length);
 
 /* The stopped cabinet with the labels that these slots hold; 0 stores. From what a state saved, with its own disks,
    blocks and online, it is the state after cabinet_power_off.
    Refuses: 4, 5, 2, 8, then slot by slot 17, 18 (cannot be), 19, 20, 18 (not its bay's), 22. */
+CABINET_MUST_USE
 struct cabinet_answer cabinet_assemble(size_t disks, size_t blocks, uint8_t online, const uint8_t *slots,
                                        size_t slots_length);
 
@@ -284,12 +310,16 @@ struct cabinet_answer cabinet_assemble(size_t disks, size_t blocks, uint8_t onli
 
 /* The label that the bytes start with. What follows it is not read.
    Refuses: 16 (fewer than 2 bytes), 17, 18 (cannot be), 16 (fewer than its bits ask), 19, 20. */
+CABINET_MUST_USE
 struct cabinet_reading cabinet_read_label(const uint8_t *bytes, size_t bytes_length);
 
 /* Writes the label of the disk with this number, of so many disks, to the front of the output. What is behind it stays.
    Refuses: 4, 8, 20, 21. */
+CABINET_MUST_USE
 struct cabinet_written cabinet_write_label(uint8_t *output, size_t output_length, size_t number, size_t disks,
                                            struct cabinet_label label);
+
+#undef CABINET_MUST_USE
 
 #ifdef __cplusplus
 }

@@ -2,11 +2,13 @@
 
 #![forbid(unsafe_code)]
 
+mod chains;
 mod copies;
 mod rows;
 mod sides;
 mod timing;
 
+use chains::Chain;
 use rows::{Buffers, Row};
 use sides::{PLAIN, PROVED};
 use std::process::ExitCode;
@@ -34,6 +36,7 @@ fn report() -> Result<(), String> {
         }
     }
     print_copies();
+    print_chains();
     let names = match notable.as_slice() {
         [] => "none".to_string(),
         names => names.join("; "),
@@ -118,5 +121,18 @@ fn print_copies() {
     let block_calls = format!("{} of {} bytes", copies::COPIES, rows::BLOCK_SIZE);
     for (name, copy) in [(one_call, whole), (block_calls, by_blocks)] {
         println!("| {name} | {copy:.1} | {:.2} | {:.2} |", proved / copy, plain / copy);
+    }
+}
+
+/// Calls one after the other, as a program makes them.
+fn print_chains() {
+    println!("\nEach call on the state that the last one left, by a `Cabinet` and in plain Rust:\n");
+    println!("| chain | Cabinet, ns a call | plain Rust, ns | ratio |");
+    println!("| --- | ---: | ---: | ---: |");
+    for (name, chain) in [("read after read", Chain::Reads), ("write after write", Chain::Writes)] {
+        let cabinet = |buffers: &mut Buffers| chains::of_cabinet(chain, buffers, CALLS);
+        let plain = |buffers: &mut Buffers| chains::of_plain(chain, buffers, CALLS);
+        let [cabinet, plain] = medians(&mut Buffers::new(rows::fresh()), [&cabinet, &plain]);
+        println!("| {name} | {cabinet:.1} | {plain:.1} | {:.2} |", cabinet / plain);
     }
 }

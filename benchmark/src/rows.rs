@@ -122,7 +122,8 @@ fn row(name: &'static str, call: Call, state: State) -> Row {
     }
 }
 
-fn fresh() -> State {
+/// A cabinet that runs with all disks, and with nothing dirty.
+pub fn fresh() -> State {
     plain::fresh(DISKS, BLOCKS, &mut vec![0; DISKS * BLOCKS * BLOCK_SIZE]).state
 }
 

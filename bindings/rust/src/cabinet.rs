@@ -13,15 +13,16 @@ use core::fmt;
 /// No call can tell an older state or area from the last one. Here there is none to hand in: a cabinet is not copied,
 /// and each call goes on where the last one stopped. So of every cabinet that [`format`](Cabinet::format) made it holds
 /// that a finished restart names disks which all have the right blocks. Of one that [`assemble`](Cabinet::assemble)
-/// made it holds if slots and area are those that were kept last.
+/// made it holds if slots and area are those that were kept last, both of the same moment: it is then the cabinet that
+/// was saved, after a power cut.
 ///
-/// `A` is what the area is kept in: a `Vec<u8>`, an array, or a slice that is borrowed for as long. Its length is
-/// [`area_length`] of the numbers of disks and blocks.
+/// `A` is what the area is kept in: a `Vec<u8>`, an array, or a slice that is borrowed for as long; another type has to
+/// show the same bytes by `as_ref` and by `as_mut`. Its length is [`area_length`] of the numbers of disks and blocks.
 ///
 /// A call is named as that of [`State`], which says what it does and in which order it refuses. A cabinet's state is
-/// always sound and its buffers fit, so 1, 2 and 3 are not given. `budget` is the number of stores that the power lasts
-/// for. Done, a call with a budget gives the number of stores made; cut, its [`Error`] has that number, and the cabinet
-/// is stopped.
+/// always sound, so 1 is never given, and neither is 3, since a block is an array; 2 only by `format`, `assemble` and
+/// `save`. `budget` is the number of stores that the power lasts for. Done, a call with a budget gives the number of
+/// stores made; cut, its [`Error`] has that number, and the cabinet is stopped.
 ///
 /// ```compile_fail
 /// # use cabinet::{area_length, Cabinet};
@@ -36,7 +37,8 @@ pub struct Cabinet<A> {
 impl<A: AsRef<[u8]> + AsMut<[u8]>> Cabinet<A> {
     /// A new cabinet: all disks in reach and current, no block dirty, the area all zero.
     ///
-    /// Refusals: 4 the number of disks, 5 of blocks, 2 the area's length.
+    /// Refusals: 4 the number of disks, 5 of blocks, 2 the area's length. Refused, it drops the area: lend a slice of
+    /// one that is to be kept.
     pub fn format(disks: usize, blocks: usize, mut area: A) -> Result<Cabinet<A>, Error> {
         let answer = State::format(disks, blocks, area.as_mut());
         answer.result()?;
@@ -49,7 +51,8 @@ impl<A: AsRef<[u8]> + AsMut<[u8]>> Cabinet<A> {
     /// The stopped cabinet whose labels were [saved](Cabinet::save) in these slots and whose blocks are in this area,
     /// with the disks of the set `online` in reach.
     ///
-    /// Refusals: those of [`State::assemble`], then 2 the area's length.
+    /// Refusals: those of [`State::assemble`], then 2 the area's length. Refused, it drops the area: lend a slice of it
+    /// if that is the only copy of the blocks.
     pub fn assemble(disks: usize, blocks: usize, online: DiskSet, slots: &[u8], area: A) -> Result<Cabinet<A>, Error> {
         let answer = State::assemble(disks, blocks, online, slots);
         answer.result()?;
@@ -68,7 +71,8 @@ impl<A: AsRef<[u8]> + AsMut<[u8]>> Cabinet<A> {
         self.keep(answer)
     }
 
-    /// Writes a block on each current disk that is in reach. After a loss it first moves to these.
+    /// Writes a block on each current disk that is in reach. After a loss it first moves to these. Cut, it counts if
+    /// the block is on the lowest of them: then a restart gives it to the others, and else the old block stays.
     pub fn write(&mut self, block: usize, data: &[u8; BLOCK_SIZE], budget: u16) -> Result<u16, Error> {
         let answer = self.state.write(self.area.as_mut(), block, data, budget);
         self.keep(answer)
@@ -119,17 +123,19 @@ impl<A: AsRef<[u8]> + AsMut<[u8]>> Cabinet<A> {
         self.keep(self.state.detach(disk)).map(drop)
     }
 
-    /// The disk is pushed back, and is taken if the bytes `shown` start with the label that the cabinet holds for it.
+    /// The disk is pushed back, and is taken if the bytes `shown` start with the label that the cabinet holds for it:
+    /// the one that it had when it was pulled.
     ///
     /// ```
-    /// # use cabinet::{area_length, Cabinet, Error, Refusal, SLOT_SIZE};
+    /// # use cabinet::{area_length, slots_length, Cabinet, Error, Refusal, SLOT_SIZE};
     /// # let mut cabinet = Cabinet::format(3, 8, vec![0; area_length(3, 8).unwrap()])?;
-    /// let mut slots = [0; 3 * SLOT_SIZE];
+    /// // Disk 2 is pulled, with its label on it: its slot has the same bytes.
+    /// cabinet.detach(2)?;
+    /// let mut slots = [0; slots_length(3).unwrap()];
     /// cabinet.save(&mut slots)?;
     /// let slot = |disk: usize| &slots[SLOT_SIZE * disk..];
     ///
-    /// // Disk 2 is pulled. Disk 1 is pushed into its bay, and then disk 2 itself.
-    /// cabinet.detach(2)?;
+    /// // Disk 1 is pushed into its bay, and then disk 2 itself.
     /// assert_eq!(cabinet.attach(2, slot(1)), Err(Refusal::LabelPlace.into()));
     /// cabinet.attach(2, slot(2))?;
     /// # Ok::<(), Error>(())
@@ -143,14 +149,16 @@ impl<A: AsRef<[u8]> + AsMut<[u8]>> Cabinet<A> {
         self.keep(self.state.power_off()).map(drop)
     }
 
-    /// Why a disk of a stopped cabinet is not current.
+    /// Why a disk of a stopped cabinet is not current, shown as a sentence. A restart looks for a set of disks in reach
+    /// in three stages, 1, 2 and 3, and this tells what keeps the set that the disk was last to be in from being found
+    /// in one. A disk that is out of reach is told in each, so 1 will do to find out which one to push in.
     pub fn diagnose(&self, stage: usize, disk: usize) -> Result<Diagnosis, Error> {
         let diagnosis = self.state.diagnose(stage, disk);
         diagnosis.outcome()?;
         Ok(diagnosis)
     }
 
-    /// Writes the labels into `slots`, [`SLOT_SIZE`](crate::SLOT_SIZE) bytes a disk. With the area they are what
+    /// Writes the labels into `slots`, of [`slots_length`](crate::slots_length) bytes. With the area they are what
     /// [`assemble`](Cabinet::assemble) needs.
     ///
     /// Refusals: 2 the length of the slots.

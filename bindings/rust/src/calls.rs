@@ -51,8 +51,8 @@ unsafe extern "C" {
         -> Written;
 }
 
-/// The calls by value, for those who keep the state elsewhere; a [`Cabinet`](crate::Cabinet) keeps it itself. None asks
-/// anything of its caller: each takes whatever it is given, and refuses what does not fit by the first of its
+/// The calls by value, for those who keep the state elsewhere; a [`Cabinet`](crate::Cabinet) keeps it itself. None has a
+/// precondition: each takes whatever it is given, and refuses what does not fit by the first of its
 /// [refusals](crate::Refusal) whose condition holds, in the order given here. `budget` is the number of stores that the
 /// power lasts for (document 01's supply).
 ///
@@ -84,7 +84,8 @@ impl State {
     }
 
     /// Writes the 64 bytes of `data` as the block, on each current disk that is in reach. If some are not, the
-    /// cabinet first moves to those that are, as a read does.
+    /// cabinet first moves to those that are, as a read does. Then it marks the block's region dirty on each where it is
+    /// not, and stores the block on each, the lowest first: from that store on the write counts, though it is cut.
     ///
     /// Refusals: 1 not sound, 2 the area's length, 3 the data's length, 6 stopped, 9 no such block, 12 no current disk
     /// in reach, 15 the power lost.

@@ -20,9 +20,12 @@ impl From<Refusal> for Error {
 
 impl fmt::Display for Error {
     fn fmt(&self, f: &mut fmt::Formatter<'_>) -> fmt::Result {
-        match (self.refusal, self.stores) {
-            (Refusal::PowerLost, stores) => write!(f, "{}; stores made: {stores}", self.refusal),
-            (refusal, _) => write!(f, "{refusal}"),
+        match self.refusal {
+            cut @ Refusal::PowerLost => {
+                let (number, text, stores) = (cut.number(), cut.text(), self.stores);
+                write!(f, "cut with {number}: {text}; stores made: {stores}")
+            }
+            refusal => write!(f, "{refusal}"),
         }
     }
 }

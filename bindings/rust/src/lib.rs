@@ -7,9 +7,9 @@
 //! that was current when the disk was last one of them. After the power went, a [restart](Cabinet::restart) finds the
 //! current set from the labels of the disks in reach, or refuses: it never takes an old block for a new one.
 //!
-//! A [`Cabinet`] has all disks in one buffer, the disk area, and a state. Its calls change both, store by store, and
-//! the power may go after any store. `budget` says after how many: in a program it is a way to try a cut, or simply a
-//! number that is large enough, such as [`u16::MAX`].
+//! A [`Cabinet`] has all disks in one buffer, the disk area, and a state with their labels. Its calls change both,
+//! store by store, and the power may go after any store. `budget` says after how many: in a program it is a way to try
+//! a cut, or simply a number that is large enough. No call has more than 520 stores to make, so [`u16::MAX`] is.
 //!
 //! # From format to a restart after a cut
 //!
@@ -20,8 +20,8 @@
 //! let mut cabinet = Cabinet::format(3, 8, vec![0; area_length(3, 8).unwrap()])?;
 //! cabinet.write(0, &[7; BLOCK_SIZE], 99)?;
 //!
-//! // Disk 2 is pulled. The next write moves to disks 0 and 1, which takes 4 stores, and is cut after the fifth: the new
-//! // block is then on disk 0 only.
+//! // Disk 2 is pulled. The next write moves to disks 0 and 1, which takes 4 stores. The block's region is still marked
+//! // as being written, so the fifth store is the block on disk 0. There it is cut: disk 1 has the old block.
 //! cabinet.detach(2)?;
 //! let cut = cabinet.write(0, &[8; BLOCK_SIZE], 5).unwrap_err();
 //! assert_eq!((cut.refusal, cut.stores), (Refusal::PowerLost, 5));
@@ -34,7 +34,7 @@
 //! cabinet.read(0, &mut block, 99)?;
 //! assert_eq!(block, [8; BLOCK_SIZE]);
 //!
-//! // A call that is refused says so by number and reason, and changes nothing.
+//! // A call that is refused, and not cut, says so by number and reason, and changes nothing.
 //! let refused = cabinet.restart(99).unwrap_err();
 //! assert_eq!(refused.to_string(), "refused with 7: the cabinet is running");
 //! # Ok::<(), Error>(())
@@ -51,10 +51,13 @@
 //! after a cut too. Of the definitions it is proved that for any calls from a format on, the power going after any
 //! store: each finished restart names disks that all hold the right blocks; none finds two sets; and a restart with
 //! every disk in reach finds one, and finishes if the budget is enough. The right blocks are those of the writes that
-//! were done; a cut write counts once its block is on the lowest of its disks.
+//! were done; a cut write counts once its block is on the lowest of the disks that it goes to. Saving and assembling
+//! are apart: what was saved assembles to the cabinet after a power cut.
 //!
 //! Not proved is this crate: that it declares the functions as they are, and hands on what it is given and gets. All
-//! its unsafe code is in one module. Nothing is allocated, and only `core` is used.
+//! its unsafe code is in one module. Nothing is allocated, and only `core` is used. And not covered is a process that
+//! dies inside a call: the area may have changed, and the labels that go with it are lost. Keep area and slots of the
+//! same moment, after a call.
 //!
 //! # By value
 //!
@@ -84,4 +87,4 @@ pub use disk_set::{DiskSet, Members};
 pub use error::Error;
 pub use label::{Label, Reading, Written};
 pub use refusal::Refusal;
-pub use state::{area_length, State, BLOCK_SIZE, MOST_BLOCKS, MOST_DISKS, SLOT_SIZE};
+pub use state::{area_length, slots_length, State, BLOCK_SIZE, MOST_BLOCKS, MOST_DISKS, SLOT_SIZE};

@@ -31,8 +31,8 @@ macro_rules! refusals {
                 }
             }
 
-            /// The reason, in words.
-            pub fn reason(self) -> &'static str {
+            /// What it stands for.
+            pub fn text(self) -> &'static str {
                 match self {
                     $(Refusal::$name => $text,)*
                     Refusal::Unknown(_) => "not a refusal of this library",
@@ -80,7 +80,7 @@ pub(crate) fn outcome(number: u8) -> Result<(), Refusal> {
 
 impl fmt::Display for Refusal {
     fn fmt(&self, f: &mut fmt::Formatter<'_>) -> fmt::Result {
-        write!(f, "refused with {}: {}", self.number(), self.reason())
+        write!(f, "refused with {}: {}", self.number(), self.text())
     }
 }
 
@@ -131,7 +131,7 @@ mod tests {
         let in_c = HEADER.lines().filter_map(|line| line.trim().strip_prefix("LINE("));
         let in_c: Vec<&str> = in_c.map(|line| line.trim_end_matches([' ', '\\', ')'])).collect();
         let line = |refusal: Refusal| {
-            let (number, name, text) = (refusal.number(), name_in_c(refusal), refusal.reason());
+            let (number, name, text) = (refusal.number(), name_in_c(refusal), refusal.text());
             format!("{number}, {name}, \"{text}\"")
         };
         let ours: Vec<String> = (1..=25).map(|number| line(Refusal::of(number))).collect();

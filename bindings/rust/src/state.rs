@@ -23,6 +23,15 @@ pub const fn area_length(disks: usize, blocks: usize) -> Option<usize> {
     }
 }
 
+/// The length of the slots that a cabinet of so many disks is saved in; `None` if there is none.
+pub const fn slots_length(disks: usize) -> Option<usize> {
+    if 1 <= disks && disks <= MOST_DISKS {
+        Some(disks * SLOT_SIZE)
+    } else {
+        None
+    }
+}
+
 /// The state of a cabinet. The caller keeps it, beside the disk area, and gives each call the one that the last call
 /// yielded. Any values may stand in it, but one that is not sound is refused. The default state is all zero and
 /// stopped, and not sound.

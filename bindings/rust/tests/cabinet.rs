@@ -108,7 +108,7 @@ fn a_cut_call_says_how_many_stores_were_made() {
     assert_eq!(cut.stores, 4);
     assert_eq!(
         cut.to_string(),
-        "refused with 15: the power went before the last store; stores made: 4"
+        "cut with 15: the power went before the last store; stores made: 4"
     );
     let refused = cabinet
         .write(0, &[7; BLOCK_SIZE], 4)
