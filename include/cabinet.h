@@ -138,8 +138,8 @@ CABINET_SIZE(written, 16);
 #undef CABINET_SIZE
 #undef CABINET_OFFSET
 
-/* The papers' numbers, each with its name and its condition, in the papers' words. A call gives the first in its own
-   order whose condition holds. The enum and the texts below are made from this table; a program may make a table of its
+/* The papers' numbers, each with its name and its condition. A call gives the first in its own order whose condition
+   holds. The enum and the texts below are made from this table; a program may make a table of its
    own from it. What the conditions leave out:
    2       the lengths are CABINET_AREA_SIZE(disks, blocks) and CABINET_SLOTS_SIZE(disks)
    8, 9    disks and blocks count from 0; 8 also where the set online has such a disk
@@ -232,8 +232,8 @@ struct cabinet_answer cabinet_read(struct cabinet_state state, const uint8_t *ar
 
 /* Moves as a read does, then marks the block's region dirty on each current disk online where it is not, then stores
    the data as the block on each of these disks, the lowest first: at most 4 stores a disk. If the power is lost, the
-   write counts from the block store on the lowest on: a restart then gives all disks the new block, and before that the
-   old one.
+   write counts from the block store on the lowest on: the disks that a restart names then have the new block, and
+   before that the old one.
    Refuses: 1, 2, 3, 6, 9, 12, 15. */
 CABINET_MUST_USE
 struct cabinet_answer cabinet_write(struct cabinet_state state, uint8_t *area, size_t area_length, size_t block,

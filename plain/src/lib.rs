@@ -1,6 +1,6 @@
 //! The calls of document 01, and of document 02's requests 2.1 to 2.6, for speed: what an engineer writes who has the
-//! papers and no proofs. The benchmark times the proved product beside it. It shares no code with the product, and none
-//! with the reference, which the differential tests hold it to.
+//! papers and no proofs. The benchmark times the proved product beside it. It depends on neither the product nor the
+//! reference; the differential tests hold it to both.
 //!
 //! It keeps the paper's method: the same stores in the same order, counted one by one. Stores of blocks that are
 //! neighbours both in the list and in the area go to one copy. Numbers, states and buffers may be anything: what does

@@ -1,9 +1,9 @@
 //! An independent implementation of document 01, *The cohort-set disk cabinet*, and of document 02's requests 2.1
 //! to 2.6.
 //!
-//! It is written from the papers alone and shares no code, table or layout with the proved product. It is meant to be
-//! read beside the paper: each rule stands once, at a place named in the paper's terms, and the comments give the
-//! paper's sentence. The restart searches all sets, as the definition says, and does not try to be fast.
+//! It is written from the papers and shares no code, table or layout with the proved product. It is meant to be read
+//! beside the paper: each rule stands once, at a place named in the paper's terms, and the comments give the paper's
+//! sentence. The restart searches all sets, as the definition says, and does not try to be fast.
 
 #![forbid(unsafe_code)]
 

@@ -72,7 +72,7 @@ impl<A: AsRef<[u8]> + AsMut<[u8]>> Cabinet<A> {
     }
 
     /// Writes a block on each current disk that is in reach. After a loss it first moves to these. Cut, it counts if
-    /// the block is on the lowest of them: then a restart gives it to the others, and else the old block stays.
+    /// the block is on the lowest of them: the disks that a restart names then have it, and else the old block.
     pub fn write(&mut self, block: usize, data: &[u8; BLOCK_SIZE], budget: u16) -> Result<u16, Error> {
         let answer = self.state.write(self.area.as_mut(), block, data, budget);
         self.keep(answer)

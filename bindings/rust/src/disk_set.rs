@@ -1,5 +1,6 @@
 //! A set of disks.
 
+use crate::state::MOST_DISKS;
 use core::fmt;
 use core::iter::FusedIterator;
 
@@ -30,7 +31,7 @@ impl DiskSet {
     /// All disks below this number, of those that a set can have.
     pub const fn below(disks: usize) -> DiskSet {
         match disks {
-            0..8 => DiskSet((1 << disks) - 1),
+            0..MOST_DISKS => DiskSet((1 << disks) - 1),
             _ => DiskSet(u8::MAX),
         }
     }
@@ -40,9 +41,9 @@ impl DiskSet {
         self.0
     }
 
-    /// Whether the disk is a member. No disk from 8 up is.
+    /// Whether the disk is a member. No disk from [`MOST_DISKS`] up is.
     pub const fn contains(self, disk: usize) -> bool {
-        disk < 8 && self.0 >> disk & 1 == 1
+        disk < MOST_DISKS && self.0 >> disk & 1 == 1
     }
 
     /// Whether there is no member.
@@ -71,7 +72,7 @@ impl Iterator for Members {
     fn next(&mut self) -> Option<usize> {
         let lowest = self.0.trailing_zeros() as usize;
         self.0 &= self.0.wrapping_sub(1);
-        (lowest < 8).then_some(lowest)
+        (lowest < MOST_DISKS).then_some(lowest)
     }
 
     fn size_hint(&self) -> (usize, Option<usize>) {

@@ -1,6 +1,7 @@
 //! A cabinet's calls give what the calls by value give, along one history each of many.
 
-use cabinet::{area_length, Answer, Cabinet, DiskSet, Error, Label, Refusal, State, BLOCK_SIZE, SLOT_SIZE};
+use cabinet::{area_length, Answer, Cabinet, DiskSet, Error, Label, Refusal, State};
+use cabinet::{BLOCK_SIZE, MOST_BLOCKS, MOST_DISKS, SLOT_SIZE};
 
 /// The histories and the calls of each.
 const HISTORIES: usize = 200;
@@ -138,6 +139,23 @@ fn a_cabinet_is_made_only_with_an_area_that_fits() {
         Err(Refusal::LabelMap.into()),
         "the slots come first"
     );
+}
+
+/// The header and the crate's page say how many stores a call can have to make: the longest list is this one.
+#[test]
+fn the_longest_restart_has_520_stores() {
+    let (disks, blocks) = (MOST_DISKS, MOST_BLOCKS);
+    let area = vec![0; area_length(disks, blocks).expect("the largest cabinet exists")];
+    let mut cabinet = Cabinet::format(disks, blocks, area).expect("the area fits");
+    for block in 0..blocks {
+        cabinet
+            .write(block, &[7; BLOCK_SIZE], 99)
+            .expect("all disks are in reach");
+    }
+    cabinet.power_off().expect("a sound state");
+    let (copies, clears, commits) = ((disks - 1) * blocks, disks * 8, disks);
+    assert_eq!(copies + clears + commits, 520);
+    assert_eq!(cabinet.restart(u16::MAX), Ok(520));
 }
 
 #[test]
