@@ -13,7 +13,13 @@ import re
 import sys
 
 # Names that would fall together with another.
-CHOSEN = {"written-bytes": "bytes_written"}
+CHOSEN = {
+    "written-bytes": "bytes_written",
+    "firstByte": "first_byte",
+    "first_byte": "first_byte_lem",
+    "goesOn": "goes_on",
+    "goes_on": "goes_on_lem",
+}
 # Words of the library that lemmas of ours are about.
 LIBRARY = {"length", "map", "take", "drop", "replicate", "reverse", "flatten", "cond", "get_or", "set"}
 NAME = r"[^\s(){}\[\];,.:\"\\]+"
@@ -94,9 +100,10 @@ def renamings():
         if name[0].isupper():
             continue
         to = joined(name, definitions) if kind == "lemma" else snake(name).replace("-", "_")
-        to = CHOSEN.get(name, to)
         if to != name:
             new[name] = to
+    for name in CHOSEN.keys() & found.keys():
+        new[name] = CHOSEN[name]
     taken = {n for n in found if n not in new}
     by_kind = sorted(new, key=lambda n: (["def", "member", "lemma"].index(found[n]), n))
     for name in by_kind:
@@ -121,7 +128,7 @@ def respelled(path, text, found, new):
         name = match.group(0)
         if name not in new or name in local:
             return name
-        if match.start() and text[match.start() - 1] == "." and found[name] != "member":
+        if match.start() and text[match.start() - 1] == "." and found[name] != "member" and "-" in name:
             return name
         return new[name]
 

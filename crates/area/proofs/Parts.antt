@@ -8,7 +8,8 @@ use lib.ListN.{length, take, drop, replicate, length-take, length-drop, length-r
 use lib.Seq.{take-length, drop-length, drop-append-le, take-append-le, take-add, drop-drop, take-take}
 use borrow.Rule.Slice.PartMut.{mid_of, put_mid}
 use Rattle.buffers.specs.Buffers.{splice}
-use Rattle.protocol.specs.Geometry.{most_disks, most_blocks, block_size, area_size, place, block, with_block, with_zero_disk}
+use Rattle.protocol.specs.Geometry.{most_disks, most_blocks, block_size, area_size, place, block, with_block}
+use Rattle.protocol.specs.Geometry.{with_zero_disk}
 use Rattle.area.specs.Parts.{InArea}
 
 -- ---- n bytes from a on, as a part of the whole
@@ -71,7 +72,8 @@ module _ (area : List ℕ) (b d k from to : ℕ) (h : InArea b d k area) (starts
       → output ≡ block b area d k
   unfolding block
   disk_loads output e =
-      e ∙ rw (size, place_in) (loaded area from (b * block_size) (omega arith) (k * block_size) block_size (omega arith))
+      e ∙ rw (size, place_in) (loaded area from (b * block_size) (omega arith) (k * block_size) block_size
+          (omega arith))
 
   -- all of that part zero
   pub disk_clears : (last : List ℕ) → last ≡ replicate (length (mid_of from (to - from) area)) 0
@@ -89,7 +91,8 @@ module _ (area : List ℕ) (b d k from to : ℕ) (h : InArea b d k area) (starts
       ∙ ap (λ at. splice at zeros area) front)
 
 -- disk d of n has its part in the area
-pub disk_in_area : (n b d k : ℕ) (area : List ℕ) → n ≤ most_disks → b ≤ most_blocks → length area ≡ area_size n b → d < n
+pub disk_in_area : (n b d k : ℕ) (area : List ℕ) → n ≤ most_disks → b ≤ most_blocks → length area ≡ area_size n b
+    → d < n
     → k < b → InArea b d k area
 unfolding area_size
 disk_in_area n b d k area disks blocks fits below known = record {

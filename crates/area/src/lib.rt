@@ -1,8 +1,11 @@
 // Blocks in the disk area: the only code that computes where a block stands. A block on its way is held by value: a
 // copy from one lent buffer to another goes byte by byte, since compiled code must reckon that they overlap.
+#![tactic(auto)]
+
 ghost use Rattle.std.specs.Prelude.{◌≡◌, ◌*◌, ◌≤◌, ◌<◌, eqb, length, take, drop};
 ghost use Rattle.buffers.specs.Buffers.{splice};
-ghost use Rattle.protocol.specs.Geometry.{most_disks, most_blocks, block_size, area_size, block, with_block, with_zero_disk};
+ghost use Rattle.protocol.specs.Geometry.{most_disks, most_blocks, block_size, area_size, block, with_block};
+ghost use Rattle.protocol.specs.Geometry.{with_zero_disk};
 ghost use Rattle.area.specs.Parts.{InArea, InPart};
 
 use buffers::clear;

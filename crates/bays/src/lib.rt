@@ -1,4 +1,6 @@
 // A cabinet's bays: how many it may have, how many blocks and regions a disk in one, and which label belongs there.
+#![tactic(auto)]
+
 mod bay;
 mod counts;
 

@@ -1,4 +1,6 @@
 // Stores of blocks under a budget. The work on a disk's block gets that disk's part of the area from the crate `area`.
+#![tactic(auto)]
+
 ghost use Rattle.std.specs.Prelude.{◌≡◌, false, [], ◌∷◌, ◌+◌, ◌≤◌, ◌<◌};
 ghost use Rattle.sets.specs.Sets.{has};
 ghost use Rattle.protocol.specs.Loops.{ascending, for_each};

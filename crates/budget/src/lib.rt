@@ -1,4 +1,6 @@
 // A list of stores under a budget: what a call with a list begins with, and how it ends.
+#![tactic(auto)]
+
 use label::Label;
 use sets::DISKS;
 
@@ -11,14 +13,14 @@ pub use starting::{size_of, started};
 // A call under way: the labels so far, and how many stores the power still allows; the disk area is lent beside it. A
 // loop goes on when none is left and stores nothing, so no loop ends early. Stores stand in the loops themselves: a
 // function of its own for each would be handed the run, and give it back, by value.
-#[derive(Drop)]
+#[derive(Clone, Copy)]
 pub struct Run {
     pub labels: [Label; DISKS],
     pub left: u16,
 }
 
 // A cabinet's n and b.
-#[derive(Drop)]
+#[derive(Clone, Copy)]
 pub struct Size {
     pub disks: usize,
     pub blocks: usize,

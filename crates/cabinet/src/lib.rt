@@ -2,6 +2,8 @@
 // from `membership`, those of a running cabinet from `storage` and `cleaning`, restart from `recovery`, the saved form
 // from `slots`; and document 02's: diagnose from `diagnosis`, swap from `swapping`. Beside them `apply`, which takes a
 // call as a value.
+#![tactic(auto)]
+
 mod calls;
 
 pub use calls::{apply, format};

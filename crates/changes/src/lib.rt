@@ -1,4 +1,6 @@
 // Stores on labels under a budget. They touch no block, so their promises hold for every disk area.
+#![tactic(auto)]
+
 ghost use Rattle.std.specs.Prelude.{◌≡◌, List, [], ◌∷◌, ℕ, ◌≤◌};
 ghost use Rattle.protocol.specs.Loops.{for_each};
 ghost use Rattle.budget.specs.Runs.{progress, run_all};
@@ -9,7 +11,7 @@ use label::Label;
 use sets::{DISKS, Mask};
 
 // A store on a label, without its disk.
-#[derive(Drop)]
+#[derive(Clone, Copy)]
 pub enum Change {
     // The dirty bit of a region: it stands, or it is cleared.
     Mark(usize),

@@ -1,4 +1,6 @@
 // Clean, the paper's quiet: it touches dirty bits and no block.
+#![tactic(auto)]
+
 ghost use Rattle.std.specs.Prelude.{◌≡◌, List, true, ℕ, ◌≤◌, length};
 ghost use Rattle.sets.specs.Sets.{below, intersection};
 ghost use Rattle.protocol.specs.Geometry.{most_disks, most_regions};

@@ -35,7 +35,8 @@ ends_as_number : (w : List ℕ) → (are_digits w && sized (length w) (capped w)
 unfolding is_number numeral_value
 ends_as_number w = go (how_capped w 0)
   where
-    go : Capped 0 w → (are_digits w && sized (length w) (capped w)) ≡ (are_digits w && sized (length w) (value_from 0 w))
+    go : Capped 0 w → (are_digits w && sized (length w) (capped w))
+        ≡ (are_digits w && sized (length w) (value_from 0 w))
     go (large h k) = rw (lt-leb _ _ h, lt-leb _ _ k)
     go (exact h) = rw h
 
@@ -133,7 +134,8 @@ decoded-words (w₄ ∷ w₃ ∷ w₂ ∷ w₁ ∷ w₀ ∷ done) =
     (same_either (scan_of (w₄ ∷ w₃ ∷ w₂ ∷ w₁ ∷ w₀ ∷ done) []).valid ∙ sym (too_many done w₀ w₁ w₂ w₃ w₄ []))
 
 -- one pass over a line finds the command of its words
-pub one_pass_decodes : (line : List ℕ) → decoded (word_ended (scanned initial_scan line)) ≡ command_of_words (words line)
+pub one_pass_decodes : (line : List ℕ) → decoded (word_ended (scanned initial_scan line))
+    ≡ command_of_words (words line)
 unfolding initial_scan scan_of
 one_pass_decodes line =
     rw (pass_splits line [] []) (decoded-words (split [] [] line) ∙ rw (words_split line [] [], words_some line))

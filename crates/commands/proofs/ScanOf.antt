@@ -78,7 +78,8 @@ pub ended-step : (done : List (List ℕ)) (w : List ℕ) → word_ended (scan_of
 unfolding word_ended scan_of number_of are_digits
 ended-step done w = rw (fits_end done w, add-one (length done), and-true (valid_of done w && end_fits done w))
 
-letter_step : (done : List (List ℕ)) (w : List ℕ) (x : ℕ) → letter_with (scan_of done w) x ≡ letter_of done (w ++ (x ∷ []))
+letter_step : (done : List (List ℕ)) (w : List ℕ) (x : ℕ) → letter_with (scan_of done w) x
+    ≡ letter_of done (w ++ (x ∷ []))
 unfolding letter_with scan_of
 letter_step [] w x = sym (last_byte_snoc w x)
 letter_step (v ∷ done) w x = rw (eqb-suc-zero (length done))
@@ -90,6 +91,7 @@ valid_step (v ∷ done) w x =
     rw (eqb-suc-zero (length done), digits_snoc w x)
     (and_assoc (valid_of done v && end_fits done v) (are_digits w) (is_digit x))
 
-pub byte_step : (done : List (List ℕ)) (w : List ℕ) (x : ℕ) → byte_read (scan_of done w) x ≡ scan_of done (w ++ (x ∷ []))
+pub byte_step : (done : List (List ℕ)) (w : List ℕ) (x : ℕ) → byte_read (scan_of done w) x
+    ≡ scan_of done (w ++ (x ∷ []))
 unfolding byte_read scan_of
 byte_step done w x = rw (letter_step done w x, valid_step done w x, capped_snoc w 0 x, length-append w (x ∷ []))

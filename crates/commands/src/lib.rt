@@ -1,4 +1,6 @@
 // A line of the cabinet program, taken apart (document 01, "The cabinet program").
+#![tactic(auto)]
+
 ghost use Rattle.std.specs.Prelude.{◌≡◌};
 ghost use Rattle.commands.specs.Commands.{command_of};
 
@@ -13,7 +15,7 @@ mod scanner;
 pub const LINE_MOST: usize = 32;
 
 // What a command lends to its call: a block filled with a byte, or the label that the state holds for a disk.
-#[derive(Drop)]
+#[derive(Clone, Copy)]
 pub enum Loan {
     Block(u8),
     StoredLabel(usize),
@@ -21,7 +23,7 @@ pub enum Loan {
 
 // A fresh, with its n and b; a call of the list, and what is lent to it; or any other line. `command_number` of
 // specs/Commands.antt says which number each gives by itself.
-#[derive(Drop)]
+#[derive(Clone, Copy)]
 pub enum Command {
     Format { disks: u16, blocks: u16 },
     Perform { call: Call, loan: Loan },

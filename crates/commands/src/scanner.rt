@@ -8,7 +8,7 @@ ghost use Rattle.commands.specs.Scanning.{letter_with, byte_read, stepped, scann
 // How far a line has been read: the byte that its first word has; how many words have ended, and the last three of
 // them as numbers, the latest last; the length and the value of the word under way; and whether every word so far is
 // what a command may have there.
-#[derive(Drop)]
+#[derive(Clone, Copy)]
 pub struct Scan {
     pub letter: u8,
     pub words: usize,
@@ -135,7 +135,7 @@ fn step(s: Scan, x: u8) -> Scan
 pub fn scan_line(line: &[u8]) -> Scan
     requires { length line.now ≤ line_most }
     ensures value { result ≡ scanned initial_scan line.now }
-    ensures words_le_line_most { result.words ≤ line_most }
+    ensures bounded { result.words ≤ line_most }
 {
     let mut s = begin();
     let mut i = 0;

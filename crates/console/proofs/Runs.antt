@@ -6,7 +6,7 @@ use Prim.Native.Nat.{ℕ, ◌+◌}
 use native.Mathlib.Omega.{arith}
 use lib.ListN.{length-append}
 use Rattle.shell.specs.Dialogue.{dialogue, initial}
-use Rattle.program.specs.Reads.{after_read, goes_on_lem}
+use Rattle.program.specs.Reads.{after_read, goes_on}
 use Rattle.program.specs.Rounds.{after_rounds, AllGoOn}
 use Rattle.program.proofs.Rounds.{rounds_last, go_on_last}
 use Rattle.console.specs.declared.Served.{Served}
@@ -19,7 +19,7 @@ module _ {memory₀ : List ℕ} {last : Served} {block line memory : List ℕ} w
   first_made served = record { earlier = []; count = refl; go_on = tt; left = served }
 
   pub next_made : {reads : ℕ} {next : Served} {block' line' memory' : List ℕ}
-      → Made reads memory₀ last block line memory → goes_on_lem last.got last.written ≡ true
+      → Made reads memory₀ last block line memory → goes_on last.got last.written ≡ true
       → dialogue next.shell line' memory' ≡ after_read next.got block' (dialogue last.shell line memory)
       → Made (reads + 1) memory₀ next block' line' memory'
   next_made {next} {block'} made on served =

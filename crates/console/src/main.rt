@@ -1,4 +1,6 @@
 // The cabinet program: it reads a block of input, has the shell serve it, and writes the replies.
+#![tactic(auto)]
+
 ghost use Rattle.std.specs.Prelude.{◌≡◌, ◌≤◌, length};
 ghost use Rattle.buffers.specs.Buffers.{splice};
 ghost use Rattle.protocol.specs.Geometry.{most_disks, most_blocks, area_size};
@@ -7,12 +9,12 @@ ghost use Rattle.program.specs.Reads.{after_read, printed_read};
 ghost use Rattle.console.specs.Buffers.{Room};
 ghost use Rattle.console.specs.Runs.{Replies, Followed, Ran};
 
-use libc::{STDIN_FILENO, STDOUT_FILENO};
 use program::goes_on;
 use protocol::geometry::{BLOCK_SIZE, MOST_BLOCKS};
 use replies::REPLY_MOST;
 use sets::DISKS;
 use shell::{LINE_BUFFER, Shell};
+use std::io::{Read, Stdin};
 
 // The most bytes of input at a time.
 const BLOCK: usize = 4096;
@@ -24,15 +26,30 @@ const OUTPUT: usize = BLOCK * REPLY_MOST;
 const MEMORY: usize = DISKS * MOST_BLOCKS * BLOCK_SIZE;
 
 // What one read leaves, what it gave, and whether the replies to it were written.
-#[derive(Drop)]
+#[derive(Clone, Copy)]
 struct Served {
     shell: Shell,
     got: isize,
     written: bool,
 }
 
+// What a read gave, as the system's own call tells it: the number of bytes, or less than 0 for an error.
+fn read_into(mut input: Stdin, block: &mut [u8]) -> isize {
+    match input.read(block) {
+        Ok(count) => count as isize,
+        Err(_) => -1,
+    }
+}
+
+// The memory of the program holds the largest disk area.
+fn largest_area() -> [u8; MEMORY]
+    ensures { length result ≡ area_size most_disks most_blocks }
+{
+    [0; MEMORY]
+}
+
 // The replies to what came are written.
-fn answer(got: isize, h: Shell, said: &[u8]) -> Served
+fn answer(rt: &HostRuntime, got: isize, h: Shell, said: &[u8]) -> Served
     requires { Replies got h said.now }
     ensures { (result.got ≡ got)
         × (result.shell ≡ record { state = h.state; buffered = h.buffered; used = 0 }) }
@@ -45,12 +62,13 @@ fn answer(got: isize, h: Shell, said: &[u8]) -> Served
             used: 0,
         },
         got: got,
-        written: io::write_all(STDOUT_FILENO, said),
+        written: rt.write_all(said).is_ok(),
     }
 }
 
 // One read, and the replies to what came, so that a person who types has them before the next read.
 fn serve_once(
+    rt: &HostRuntime,
     h: Shell,
     block: &mut [u8],
     line: &mut [u8],
@@ -65,15 +83,16 @@ fn serve_once(
         out.old }
     ensures room { (result.shell.buffered ≤ line_buffer) × (result.shell.used ≡ 0) }
 {
-    let got = libc::read(STDIN_FILENO, block);
+    let got = read_into(rt.stdin(), block);
     let after = program::hear(got, block, h, line, memory, out);
     let used = after.used;
-    answer(got, after, &out[..used])
+    answer(rt, got, after, &out[..used])
 }
 
 // The reads that follow one; none, where none is to follow. Their number only lets the proof see an end: at a read each
 // nanosecond it would be reached in 584 years.
 fn read_on(
+    rt: &HostRuntime,
     first: Served,
     block: &mut [u8],
     line: &mut [u8],
@@ -89,25 +108,30 @@ fn read_on(
     let mut reads = u64::MAX - 1;
     while reads > 0 && goes_on(last.got, last.written) {
         let h = last.shell;
-        last = serve_once(h, block, line, memory, out);
+        last = serve_once(rt, h, block, line, memory, out);
         reads -= 1;
     }
     last
 }
 
-fn run(block: &mut [u8], line: &mut [u8], memory: &mut [u8], out: &mut [u8]) -> Served
-    requires room { Room block.old line.old out.old }
-    requires memory_len { length memory.old ≡ area_size most_disks most_blocks }
+fn run(
+    rt: &HostRuntime,
+    block: &mut [u8],
+    line: &mut [u8],
+    memory: &mut [u8],
+    out: &mut [u8],
+) -> Served
+    requires { Room block.old line.old out.old }
     ensures { Ran memory.old result block.new line.new memory.new }
 {
-    let first = serve_once(shell::begin(), block, line, memory, out);
-    read_on(first, block, line, memory, out)
+    let first = serve_once(rt, shell::begin(), block, line, memory, out);
+    read_on(rt, first, block, line, memory, out)
 }
 
-fn main() {
+fn main(rt: HostRuntime) {
     let mut block = [0u8; BLOCK];
     let mut line = [0u8; LINE_BUFFER];
-    let mut memory = [0u8; MEMORY];
+    let mut memory = largest_area();
     let mut out = [0u8; OUTPUT];
-    run(&mut block, &mut line, &mut memory, &mut out);
+    run(&rt, &mut block, &mut line, &mut memory, &mut out);
 }

@@ -2,7 +2,7 @@
 use mathlib.Core.Path.{◌≡◌, refl}
 use mathlib.Core.Bool.{true}
 use mathlib.Core.List.{List, [], ◌∷◌, ◌++◌}
-use Prim.Native.Nat.{ℕ, zero, suc, ◌+◌, ◌/◌, ◌%◌, ◌^◌, ◌≤◌, ◌<◌}
+use Prim.Native.Nat.{ℕ, zero, suc, ◌+◌, ◌-◌, ◌*◌, ◌/◌, ◌%◌, ◌^◌, ◌≤◌, ◌<◌}
 use native.Mathlib.Nat.{mod-lt, pow-suc}
 use native.Mathlib.Omega.{arith}
 use lib.Dec.{ltb, lit<}
@@ -16,7 +16,7 @@ use Rattle.decimal.proofs.Spelling.{every-numeral}
 value_append : (v : ℕ) (a b : List ℕ) → value_from v (a ++ b) ≡ value_from (value_from v a) b
 unfolding value_from
 value_append v [] b = refl
-value_append v (x ∷ a) b = value_append _ a b
+value_append v (x ∷ a) b = value_append (v * 10 + (x - 48)) a b
 
 reads : (n : ℕ) → numeral_value (numeral n) ≡ n
 unfolding numeral_value value_from

@@ -1,4 +1,6 @@
 // Numbers as decimal numerals.
+#![tactic(auto)]
+
 ghost use Rattle.std.specs.Prelude.{◌+◌, ◌≤◌, length};
 ghost use Rattle.buffers.specs.Buffers.{Stored};
 ghost use Rattle.decimal.specs.Numerals.{numeral};

@@ -1,7 +1,10 @@
 // The calls on the cabinet itself, for programs in C and Rust: it is made, started and stopped, its disks are lost and
 // return, and it is asked why a disk is not current. include/cabinet.h declares the functions.
+#![tactic(auto)]
+
 ghost use Rattle.std.specs.Prelude.{◌≡◌, List, ℕ};
-ghost use Rattle.protocol.specs.Calls.{format_outcome, restart_outcome, detach_outcome, attach_outcome, power_off_outcome};
+ghost use Rattle.protocol.specs.Calls.{format_outcome, restart_outcome, detach_outcome, attach_outcome};
+ghost use Rattle.protocol.specs.Calls.{power_off_outcome};
 ghost use Rattle.protocol.specs.Diagnosis.{diagnosis};
 ghost use Rattle.flat.specs.Flat.{opened, flat_outcome, flat_diagnosis};
 

@@ -1,5 +1,7 @@
 // Document 01's calls on labels, for programs in C and Rust: a cabinet's are saved to slots and assembled from them, a
 // single one is read and written. include/cabinet.h declares the functions.
+#![tactic(auto)]
+
 ghost use Rattle.std.specs.Prelude.{◌≡◌, List, ℕ, length};
 ghost use Rattle.label.specs.Reading.{reading};
 ghost use Rattle.label.specs.Writing.{written, written_bytes};

@@ -1,5 +1,7 @@
 // The calls on a running cabinet, for programs in C and Rust: blocks are read and written, a disk joins or is swapped
 // for a blank one, dirty bits are cleared. include/cabinet.h declares the functions.
+#![tactic(auto)]
+
 ghost use Rattle.std.specs.Prelude.{◌≡◌, List, ℕ};
 ghost use Rattle.protocol.specs.Calls.{read_outcome, write_outcome, join_outcome, swap_outcome, clean_outcome};
 ghost use Rattle.flat.specs.Flat.{opened, flat_outcome};

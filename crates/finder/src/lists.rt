@@ -10,7 +10,7 @@ use label::Label;
 use sets::{DISKS, Mask};
 
 // A list by value: the first `count` of the sets.
-#[derive(Drop)]
+#[derive(Clone, Copy)]
 pub(crate) struct SetList {
     pub(crate) sets: [Mask; DISKS],
     pub(crate) count: usize,

@@ -1,5 +1,7 @@
 // States and answers as programs in C and Rust hold them: numbers only, laid out as C does. The labels come first,
 // and the state in an answer: so compiled code copies them in pieces that start where they do.
+#![tactic(auto)]
+
 ghost use Rattle.std.specs.Prelude.{◌≡◌};
 ghost use Rattle.protocol.specs.Diagnosis.{reason_number, reason_disk};
 ghost use Rattle.flat.specs.Flat.{power_of, opened, flat_state, flat_answer, flat_diagnosis};
@@ -11,7 +13,7 @@ use sets::{DISKS, Mask};
 // A state without its enum: `current` is G, and 0 when the cabinet is stopped. A running cabinet with no current disk
 // is not sound, so nothing is lost.
 #[repr(C)]
-#[derive(Drop)]
+#[derive(Clone, Copy)]
 pub struct FlatState {
     pub labels: [Label; DISKS],
     pub disks: u8,
@@ -22,7 +24,7 @@ pub struct FlatState {
 
 // The answer of every exported call.
 #[repr(C)]
-#[derive(Drop)]
+#[derive(Clone, Copy)]
 pub struct FlatAnswer {
     pub state: FlatState,
     pub stores: u16,
@@ -32,7 +34,7 @@ pub struct FlatAnswer {
 // The answer of a diagnosis without its enum: the reason's number and disk, as `reason_number` and `reason_disk` of
 // protocol/specs/Diagnosis.antt give them.
 #[repr(C)]
-#[derive(Drop)]
+#[derive(Clone, Copy)]
 pub struct FlatDiagnosis {
     pub disk: usize,
     pub refusal: u8,

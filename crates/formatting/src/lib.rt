@@ -1,4 +1,6 @@
 // Format, the paper's fresh: it begins a cabinet and clears its disk area.
+#![tactic(auto)]
+
 ghost use Rattle.std.specs.Prelude.{◌≡◌, List, ℕ, ◌≤◌, replicate};
 ghost use Rattle.protocol.specs.Geometry.{most_disks};
 ghost use Rattle.protocol.specs.States.{filled_up};

@@ -27,7 +27,7 @@ unfolding executed
 bad_tracked t m h = h
 
 command_tracked : (x : Command) (t : history.SinceFormat) (m : Machine) → Tracks t m
-    → Tracks (history.withCommand x t) (executed x m).machine
+    → Tracks (history.with_command x t) (executed x m).machine
 command_tracked (Format n b) t m h = go (test (history.good n b))
   where
     go : Test (history.good n b)
@@ -41,23 +41,23 @@ command_tracked Bad t m h = bad_tracked t m h
 
 -- one command more
 pub machine_last : (commands : List Command) (x : Command) (m : Machine)
-    → history.machineAfter (commands ++ (x ∷ [])) m ≡ (executed x (history.machineAfter commands m)).machine
-unfolding history.machineAfter
+    → history.machine_after (commands ++ (x ∷ [])) m ≡ (executed x (history.machine_after commands m)).machine
+unfolding history.machine_after
 machine_last [] x m = refl
 machine_last (y ∷ later) x m = machine_last later x (executed y m).machine
 
 pub since_last : (commands : List Command) (x : Command) (t : history.SinceFormat)
-    → history.sinceFormat (commands ++ (x ∷ [])) t ≡ history.withCommand x (history.sinceFormat commands t)
-unfolding history.sinceFormat
+    → history.since_format (commands ++ (x ∷ [])) t ≡ history.with_command x (history.since_format commands t)
+unfolding history.since_format
 since_last [] x t = refl
-since_last (y ∷ later) x t = since_last later x (history.withCommand y t)
+since_last (y ∷ later) x t = since_last later x (history.with_command y t)
 
 commands_tracked : (commands : List Command) (t : history.SinceFormat) (m : Machine) → Tracks t m
-    → Tracks (history.sinceFormat commands t) (history.machineAfter commands m)
-unfolding history.sinceFormat history.machineAfter
+    → Tracks (history.since_format commands t) (history.machine_after commands m)
+unfolding history.since_format history.machine_after
 commands_tracked [] t m h = h
 commands_tracked (x ∷ later) t m h =
-    commands_tracked later (history.withCommand x t) (executed x m).machine (command_tracked x t m h)
+    commands_tracked later (history.with_command x t) (executed x m).machine (command_tracked x t m h)
 
 module _ (t : history.SinceFormat) (m : Machine) (h : Tracks t m) where
   left_here : (n b : ℕ) (earlier : List Step) → t ≡ history.calls n b earlier
@@ -66,7 +66,7 @@ module _ (t : history.SinceFormat) (m : Machine) (h : Tracks t m) where
 
 -- what a return yields that shows the stored label
 return_result : (n b : ℕ) (earlier : List Step) → (format_outcome (zero_area n b) [] n b).answer.refusal ≡ 0 → (d : ℕ)
-    → (history.replyAfter n b earlier (Attach d) (StoredLabel d)).result ≡ cond (ltb d n) 0 8
+    → (history.reply_after n b earlier (Attach d) (StoredLabel d)).result ≡ cond (ltb d n) 0 8
 unfolding call_reply reply_to
 return_result n b earlier done d =
     let h = invariant n b (zero_area n b) done earlier in

@@ -18,7 +18,7 @@ use Rattle.protocol.proofs.Blocks.{block_length}
 use Rattle.commands.specs.declared.Loan.{Loan}
 use Rattle.interpreter.specs.Execution.{machine_of, reply_to, kept_state, format_executed, call_reply, call_executed}
 use Rattle.interpreter.specs.Lending.{lent_bytes}
-use Rattle.interpreter.proofs.FirstByte.{first_byte}
+use Rattle.interpreter.proofs.FirstByte.{first_byte_lem}
 
 module _ (size : ℕ) (memory : List ℕ) where
   abbrev Lent : ℕ → Type 0
@@ -82,4 +82,4 @@ unfolding call_executed call_reply
 call_leaves call loan s memory end e done =
     let part = lent (area_size s.disks s.blocks) memory end e in
     let before : Cabinet = record { state = s; area = take end memory } in
-    rw (part.1, ← part.0, ← done, ← (rw (← done) at (first_byte (lent_bytes loan s) before call)))
+    rw (part.1, ← part.0, ← done, ← (rw (← done) at (first_byte_lem (lent_bytes loan s) before call)))

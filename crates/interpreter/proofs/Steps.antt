@@ -28,7 +28,7 @@ use Rattle.protocol.proofs.History.{ran_last}
 use Rattle.commands.specs.declared.Command.TheVariants.{Perform}
 use Rattle.commands.specs.declared.Loan.{Loan}
 use Rattle.interpreter.specs.Execution.{Machine, machine_of, cabinet_in, step_of, call_executed, call_reply, executed}
-use Rattle.interpreter.specs.Execution.{reply_to, is_read, first_byte_lem, with_area}
+use Rattle.interpreter.specs.Execution.{reply_to, is_read, first_byte, with_area}
 use Rattle.interpreter.specs.Histories as history
 use Rattle.interpreter.proofs.Tracking.{largest, in_memory, area_back, memory_kept, fits, Tracks}
 
@@ -67,7 +67,7 @@ module _ (call : Call) (loan : Loan) where
   zero_executed : (memory : List ℕ)
       → executed (Perform call loan) (machine_of zero_state memory)
       ≡ record { machine = machine_of zero_state memory; reply = reply_to 1 0 zero_state 0 }
-  unfolding executed call_executed call_reply first_byte_lem
+  unfolding executed call_executed call_reply first_byte
   zero_executed memory =
       let size = area_size zero_state.disks zero_state.blocks in
       rw (

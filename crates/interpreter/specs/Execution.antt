@@ -66,8 +66,8 @@ is_read (Diagnose stage d) = false
 is_read (Swap d budget) = false
 
 -- "(0 unless a read was done)"
-unfoldable pub first_byte_lem : Call → ℕ → ℕ → ℕ
-first_byte_lem call refusal byte = cond (is_read call && eqb refusal 0) byte 0
+unfoldable pub first_byte : Call → ℕ → ℕ → ℕ
+first_byte call refusal byte = cond (is_read call && eqb refusal 0) byte 0
 
 -- ---- commands
 
@@ -91,7 +91,7 @@ step_of call loan s = record { call = call; bytes = lent_bytes loan s; output = 
 -- what a call of the list yields, as a reply
 unfoldable pub call_reply : Call → Outcome → Reply
 call_reply call o =
-    let byte = first_byte_lem call o.answer.refusal (get_or o.output 0 0) in
+    let byte = first_byte call o.answer.refusal (get_or o.output 0 0) in
     reply_to o.answer.refusal o.answer.stores o.answer.state byte
 
 unfoldable pub call_executed : Call → Loan → Machine → Executed

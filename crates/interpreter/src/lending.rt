@@ -12,7 +12,7 @@ use protocol::geometry::BLOCK_SIZE;
 use sets::DISKS;
 
 // The first so many of these.
-#[derive(Drop)]
+#[derive(Clone, Copy)]
 pub struct Lent {
     pub bytes: [u8; BLOCK_SIZE],
     pub length: usize,

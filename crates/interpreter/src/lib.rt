@@ -1,4 +1,6 @@
 // What a command does to the cabinet, and what it is answered.
+#![tactic(auto)]
+
 ghost use Rattle.std.specs.Prelude.{◌≡◌, min};
 ghost use Rattle.protocol.specs.Geometry.{area_size};
 ghost use Rattle.interpreter.specs.Execution.{machine_of, with_memory, reply_to, format_executed};
@@ -14,7 +16,7 @@ use replies::Reply;
 mod lending;
 
 // What a command leaves beside the memory: the cabinet's state, and the reply.
-#[derive(Drop)]
+#[derive(Clone, Copy)]
 pub struct Executed {
     pub state: State,
     pub reply: Reply,

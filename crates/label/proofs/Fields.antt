@@ -86,7 +86,8 @@ one_byte s at = rw (get_or-drop at s 0 0, add-zero at) (omega arith)
 pub two_bytes : (s : List ℕ) (at : ℕ) → get_or s at 0 + 256 * get_or s (at + 1) 0 ≡ from_little_endian 2 (drop at s)
 unfolding from_little_endian
 two_bytes s at =
-    rw (drop-drop 1 at s, get_or-drop at s 0 0, get_or-drop (at + 1) s 0 0, add-zero at, add-zero (at + 1)) (omega arith)
+    rw (drop-drop 1 at s, get_or-drop at s 0 0, get_or-drop (at + 1) s 0 0, add-zero at, add-zero (at + 1))
+    (omega arith)
 
 pub one_written : (v : ℕ) → (v ≡ 0 → ⊥) → field_bytes 1 v ≡ v % 256 ∷ []
 unfolding little_endian

@@ -22,7 +22,8 @@ unfolding from_little_endian
 value_alike zero s t h = refl
 value_alike (suc k) s t h =
     ap₂ (λ (x y : ℕ). x + 256 * y) (h 0 (omega arith))
-    (value_alike k (drop 1 s) (drop 1 t) (λ i l. rw (get_or-drop 1 s i 0, get_or-drop 1 t i 0) (h (1 + i) (omega arith))))
+    (value_alike k (drop 1 s) (drop 1 t) (λ i l. rw (get_or-drop 1 s i 0, get_or-drop 1 t i 0)
+    (h (1 + i) (omega arith))))
 
 -- a field within the first m bytes depends on those alone
 field_prefix : (s : List ℕ) (bit k at m : ℕ) → bit < 2 → at + k * bit ≤ m

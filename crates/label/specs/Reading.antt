@@ -1,5 +1,6 @@
 -- Document 01, "Label reading".
-use Rattle.std.specs.Prelude.{Bool, cond, not, ◌&&◌, ◌||◌, List, [], ◌∷◌, ℕ, ◌+◌, ◌/◌, ◌%◌, eqb, ltb, leb, length, get_or}
+use Rattle.std.specs.Prelude.{Bool, cond, not, ◌&&◌, ◌||◌, List, [], ◌∷◌, ℕ, ◌+◌, ◌/◌, ◌%◌, eqb, ltb, leb, length}
+use Rattle.std.specs.Prelude.{get_or}
 use Rattle.label.specs.declared.Form.{Form}
 use Rattle.label.specs.Bytes.{blank, label_length, fields_of}
 use Rattle.refusals.specs.Refusals.{first_of}
@@ -43,8 +44,10 @@ refused r = record { refusal = r; number = 0; disks = 0; label = blank; length =
 -- what a map, a number, n and fields found in so many bytes yield
 unfoldable pub judged : Form → ℕ → ℕ → ℕ → ℕ → Label → Reading
 judged f len map d n l =
-    cond (eqb (read_refusal f len map d n l) 0) (found d n l (label_length f map)) (refused (read_refusal f len map d n l))
+    cond (eqb (read_refusal f len map d n l) 0) (found d n l (label_length f map))
+    (refused (read_refusal f len map d n l))
 
 -- "Label reading yields the disk number, n, the three fields and the label's length."
 unfoldable pub reading : Form → List ℕ → Reading
-reading f s = judged f (length s) (get_or s 0 0) (get_or s 1 0 % 16) (get_or s 1 0 / 16 + f.base) (fields_of f s (get_or s 0 0))
+reading f s =
+    judged f (length s) (get_or s 0 0) (get_or s 1 0 % 16) (get_or s 1 0 / 16 + f.base) (fields_of f s (get_or s 0 0))

@@ -1,4 +1,6 @@
 // Reading a label out of bytes.
+#![tactic(auto)]
+
 ghost use Rattle.std.specs.Prelude.{◌≡◌, ◌≤◌, ◌<◌, get_or, drop};
 ghost use Rattle.label.specs.Form.{Coded};
 ghost use Rattle.label.specs.Bytes.{from_little_endian, field_at, fields_of};

@@ -1,4 +1,6 @@
 // Writing a label as bytes.
+#![tactic(auto)]
+
 ghost use Rattle.std.specs.Prelude.{◌≡◌, ◌+◌, ◌*◌, ◌≤◌, ◌<◌, length};
 ghost use Rattle.buffers.specs.Buffers.{Stored};
 ghost use Rattle.label.specs.Form.{Coded};

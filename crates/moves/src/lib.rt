@@ -1,5 +1,7 @@
 // Moving to a set, and to L: the stores, how many they are, and a move to L that is a call's whole list. They touch no
 // block, so their promises hold for every disk area.
+#![tactic(auto)]
+
 ghost use Rattle.std.specs.Prelude.{◌≡◌, true, List, ℕ, ◌*◌, ◌≤◌, eqb, length};
 ghost use Rattle.sets.specs.Sets.{below};
 ghost use Rattle.protocol.specs.Geometry.{most_disks};

@@ -1,4 +1,6 @@
 // What the labels of disks in reach name (document 01, "Which set a restart names").
+#![tactic(auto)]
+
 use sets::Mask;
 
 mod reading;
@@ -7,7 +9,7 @@ pub use reading::{refusal, the_set};
 
 // `found_of` of specs/Meaning.antt says what each case is in the paper's definition, and that definition's
 // `found_number` and `the_set` which number and set it gives.
-#[derive(Drop)]
+#[derive(Clone, Copy)]
 pub enum Naming {
     Nothing,
     One(Mask),

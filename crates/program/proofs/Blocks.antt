@@ -16,7 +16,7 @@ use Rattle.protocol.proofs.Invariant.{contents_at_is}
 use Rattle.protocol.proofs.ReadsRight.{reads_right}
 use Rattle.protocol.proofs.WritesCount.{writes_count}
 use Rattle.commands.specs.declared.Loan.TheVariants.{Block}
-use Rattle.interpreter.specs.Execution.{first_byte_lem, call_reply, reply_to}
+use Rattle.interpreter.specs.Execution.{first_byte, call_reply, reply_to}
 use Rattle.program.specs.Demand3.{LineIn, behind, calls_since, executed_at, book, IsRead, IsWrite, Counts}
 use Rattle.program.proofs.Lines.{done, with_it, here, up_to, call_line}
 
@@ -24,7 +24,7 @@ module _ (memory : List ℕ) (size : length memory ≡ area_size most_disks most
     {whole : List (List ℕ)} (c : LineIn whole) where
   pub read_shows : (k budget : ℕ) → IsRead c.this k budget → (executed_at memory c).reply.result ≡ 0
       → (executed_at memory c).reply.byte ≡ get_or (book (calls_since (up_to memory size c)) k) 0 0
-  unfolding call_reply reply_to first_byte_lem
+  unfolding call_reply reply_to first_byte
   read_shows k budget is =
       call_line memory size c (Read k budget) (Block 0) is
       (λ reply t u. reply.result ≡ 0 → reply.byte ≡ get_or (book u k) 0 0)

@@ -18,7 +18,8 @@ use Rattle.commands.specs.declared.Loan.{Loan}
 use Rattle.commands.specs.Commands.{command_of}
 use Rattle.replies.specs.declared.Reply.{Reply}
 use Rattle.interpreter.specs.Execution.{machine_of, cabinet_in, step_of, call_reply, reply_to}
-use Rattle.interpreter.specs.Histories.{machine_after, SinceFormat, unformatted, calls, good, with_command, since_format}
+use Rattle.interpreter.specs.Histories.{machine_after, SinceFormat, unformatted, calls, good, with_command}
+use Rattle.interpreter.specs.Histories.{since_format}
 use Rattle.interpreter.specs.Histories.{Conforms}
 use Rattle.interpreter.proofs.Histories.{commands_are_histories, machine_last, since_last}
 use Rattle.program.specs.Demand3.{LineIn, commands_of, behind, calls_since, executed_at}

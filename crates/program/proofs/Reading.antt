@@ -13,7 +13,7 @@ use borrow.Author.Tests.{lt-ltb, ltb-true}
 use Rattle.sets.proofs.Tests.{clash}
 use Rattle.io.specs.Counts.{clamp_len}
 use Rattle.shell.specs.Dialogue.{Dialogue, after_input, printed_input, printed_end, after_end}
-use Rattle.program.specs.Reads.{after_read, printed_read, goes_on_lem}
+use Rattle.program.specs.Reads.{after_read, printed_read, goes_on}
 
 module _ (block : List ℕ) (d : Dialogue) where
   pub error : (got : ℤ) → lt_z got (pos 0) ≡ true → (after_read got block d ≡ d) × (printed_read got block d ≡ [])
@@ -42,10 +42,10 @@ module _ (block : List ℕ) (d : Dialogue) where
   some_bytes (pos (suc k)) n m = rw (take_min (suc k)) (refl, refl)
   some_bytes (negsuc k) n m = clash refl n
 
-pub goes_on : (got : ℤ) (written : Bool) → (written && lt_z (pos 0) got) ≡ goes_on_lem got written
-goes_on (pos zero) true = refl
-goes_on (pos zero) false = refl
-goes_on (pos (suc k)) true = lt-ltb 0 (suc k) (omega arith)
-goes_on (pos (suc k)) false = refl
-goes_on (negsuc k) true = refl
-goes_on (negsuc k) false = refl
+pub goes_on_lem : (got : ℤ) (written : Bool) → (written && lt_z (pos 0) got) ≡ goes_on got written
+goes_on_lem (pos zero) true = refl
+goes_on_lem (pos zero) false = refl
+goes_on_lem (pos (suc k)) true = lt-ltb 0 (suc k) (omega arith)
+goes_on_lem (pos (suc k)) false = refl
+goes_on_lem (negsuc k) true = refl
+goes_on_lem (negsuc k) false = refl

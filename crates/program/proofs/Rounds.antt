@@ -8,7 +8,7 @@ use Rattle.sets.proofs.Tests.{clash}
 use Rattle.shell.specs.Dialogue.{Dialogue, after_input, printed_input, printed_end, initial}
 use Rattle.shell.specs.Dialogue.{printed_blocks, after_blocks, transcript}
 use Rattle.shell.proofs.Transcript.{blocks_print}
-use Rattle.program.specs.Reads.{after_read, printed_read, goes_on_lem}
+use Rattle.program.specs.Reads.{after_read, printed_read, goes_on}
 use Rattle.program.specs.Rounds.{Round, after_rounds, printed_rounds, AllGoOn, bytes_read, blocks_of}
 use Rattle.program.specs.Rounds.{RoundsServeInput}
 
@@ -20,7 +20,7 @@ unfolding after_rounds
 rounds_last [] t d = refl
 rounds_last (u ∷ rounds) t d = rounds_last rounds t (after_read u.got u.block d)
 
-pub go_on_last : (rounds : List Round) (t : Round) → AllGoOn rounds → goes_on_lem t.got t.written ≡ true
+pub go_on_last : (rounds : List Round) (t : Round) → AllGoOn rounds → goes_on t.got t.written ≡ true
     → AllGoOn (rounds ++ (t ∷ []))
 unfolding AllGoOn
 go_on_last [] t h e = (e, tt)
@@ -29,7 +29,7 @@ go_on_last (u ∷ rounds) t h e = (h.0, go_on_last rounds t h.1 e)
 -- ---- a read that another follows gave a block of the input
 
 module _ (block : List ℕ) (d : Dialogue) where
-  block_served : (got : ℤ) (written : Bool) → goes_on_lem got written ≡ true
+  block_served : (got : ℤ) (written : Bool) → goes_on got written ≡ true
       → (after_read got block d ≡ after_input (bytes_read got block) d)
       × (printed_read got block d ≡ printed_input (bytes_read got block) d)
   block_served (negsuc k) written e = clash e refl

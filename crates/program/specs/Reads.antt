@@ -15,7 +15,7 @@ printed_read (pos zero) block d = printed_end d
 printed_read (pos (suc k)) block d = printed_input (take (suc k) block) d
 
 -- Another read follows where this one gave bytes, and what they printed could be written.
-abbrev pub goes_on_lem : ℤ → Bool → Bool
-goes_on_lem (negsuc k) written = false
-goes_on_lem (pos zero) written = false
-goes_on_lem (pos (suc k)) written = written
+abbrev pub goes_on : ℤ → Bool → Bool
+goes_on (negsuc k) written = false
+goes_on (pos zero) written = false
+goes_on (pos (suc k)) written = written

@@ -3,7 +3,7 @@
 use Rattle.std.specs.Prelude.{◌≡◌, Bool, true, ℤ, pos, negsuc, take, ℕ}
 use mathlib.Core.List.{List, [], ◌∷◌, ◌++◌, map, flatten}
 use Rattle.shell.specs.Dialogue.{Dialogue, transcript, initial, after_blocks}
-use Rattle.program.specs.Reads.{after_read, printed_read, goes_on_lem}
+use Rattle.program.specs.Reads.{after_read, printed_read, goes_on}
 
 pub record Round : Type 0 where
   pub got : ℤ
@@ -22,7 +22,7 @@ printed_rounds (t ∷ later) d =
 -- each of them is followed by another
 unfoldable pub AllGoOn : List Round → Type 0
 AllGoOn [] = Unit {0}
-AllGoOn (t ∷ later) = (goes_on_lem t.got t.written ≡ true) × AllGoOn later
+AllGoOn (t ∷ later) = (goes_on t.got t.written ≡ true) × AllGoOn later
 
 -- the bytes that came
 abbrev pub bytes_read : ℤ → List ℕ → List ℕ

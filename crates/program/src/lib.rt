@@ -1,9 +1,11 @@
 // The cabinet program but for its reads and writes: what a read gives is heard. `console` reads and writes.
+#![tactic(auto)]
+
 ghost use Rattle.std.specs.Prelude.{◌≡◌, ◌+◌, ◌*◌, ◌≤◌, length};
 ghost use Rattle.buffers.specs.Buffers.{Stored};
 ghost use Rattle.replies.specs.Replies.{reply_most};
 ghost use Rattle.shell.specs.Dialogue.{line_buffer, dialogue};
-ghost use Rattle.program.specs.Reads.{after_read, printed_read, goes_on_lem};
+ghost use Rattle.program.specs.Reads.{after_read, printed_read, goes_on};
 
 use shell::Shell;
 
@@ -39,7 +41,7 @@ pub fn hear(
 // Whether another read is to follow. An error or the end of the input ends the program; so does a reply that cannot be
 // written, for nobody reads any more.
 pub fn goes_on(got: isize, written: bool) -> bool
-    ensures { result ≡ goes_on_lem got written }
+    ensures { result ≡ goes_on got written }
 {
     written & (0 < got)
 }

@@ -29,13 +29,13 @@ use Rattle.protocol.specs.AlteredBlocks.{Misled}
 
 pub misled : Misled
 unfolding has union intersection difference singleton all subset below lowest map_byte place_byte little_endian encode
-    label_length from_little_endian field_at fields_of same_label outside wrong_set wrong_sets empty_field read_refusals
-    read_refusal judged reading splice first_of region_of regions area_size place block with_block ascending for_each
-    all_below some_below every some source in_range fit_set fit_label fit_labels fit_member fit_power sound apply apply_all
-    commits resyncs restart_list backs proposes candidate candidates found_in or_later decide named found_by bay_refusals
-    refused_or carry_out format_refusals formatted zero_area format_outcome reach_refusals shown_refusals attach_refusals
-    detach_outcome attach_outcome power_off_outcome restart_refusals restart_outcome perform ran carried_by after_writes
-    started recorded recorded_all
+    label_length from_little_endian field_at fields_of same_label outside wrong_set wrong_sets empty_field
+    read_refusals read_refusal judged reading splice first_of region_of regions area_size place block with_block
+    ascending for_each all_below some_below every some source in_range fit_set fit_label fit_labels fit_member
+    fit_power sound apply apply_all commits resyncs restart_list backs proposes candidate candidates found_in or_later
+    decide named found_by bay_refusals refused_or carry_out format_refusals formatted zero_area format_outcome
+    reach_refusals shown_refusals attach_refusals detach_outcome attach_outcome power_off_outcome restart_refusals
+    restart_outcome perform ran carried_by after_writes started recorded recorded_all
 misled = record {
   finished = refl;
   names = (refl, refl);

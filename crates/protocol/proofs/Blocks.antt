@@ -155,7 +155,8 @@ module _ (n b : ℕ) (area : List ℕ) (size : length area ≡ area_size n b) wh
         let p = place b d k in
         let l = splice-length p bytes area room in
         ext_get_or 0 _ _ (part_length block_size p (splice p bytes area) (omega (arith, room)) ∙ sym full)
-        (λ i h. let m : i < block_size = rw (part_length block_size p (splice p bytes area) (omega (arith, room))) at h in
+        (λ i h.
+        let m : i < block_size = rw (part_length block_size p (splice p bytes area) (omega (arith, room))) at h in
         part_at block_size p (splice p bytes area) i m ∙ splice_mid p bytes area room i (omega arith))
 
     pub stored_other : (e m : ℕ) → e < n → m < b → (d ≢ e) ⊎ (k ≢ m)

@@ -24,12 +24,12 @@ also : {A B : Type 0} → A → B → A × B
 also case cases = (case, cases)
 
 pub hand_cases_lem : HandCasesHold
-unfolding has intersection difference singleton subset below lowest map_byte place_byte little_endian encode label_length
-    from_little_endian field_at fields_of first_of outside wrong_set wrong_sets empty_field read_refusals read_refusal judged
-    reading region_of regions area_size ascending for_each all_below some_below every some source in_range fit_set fit_label
-    same_label fit_labels fit_member fit_power sound apply apply_all commits resyncs restart_list backs proposes candidate
-    candidates found_in or_later decide named refused_or carry_out zero_area found_by restart_refusals restart_outcome labelled
-    stopped_with restarted
+unfolding has intersection difference singleton subset below lowest map_byte place_byte little_endian encode
+    label_length from_little_endian field_at fields_of first_of outside wrong_set wrong_sets empty_field read_refusals
+    read_refusal judged reading region_of regions area_size ascending for_each all_below some_below every some source
+    in_range fit_set fit_label same_label fit_labels fit_member fit_power sound apply apply_all commits resyncs
+    restart_list backs proposes candidate candidates found_in or_later decide named refused_or carry_out zero_area
+    found_by restart_refusals restart_outcome labelled stopped_with restarted
 hand_cases_lem =
     also (refl, refl) (also (refl, refl) (also (refl, refl) (also (refl, refl)
     (also (refl, refl) (also (refl, refl) (also (refl, refl) (also (refl, refl)

@@ -92,7 +92,8 @@ module _ (n s : ℕ) (p : ℕ → Bool) where
 pub some_known : (m n s : ℕ) (p : ℕ → Bool) → n ≤ m → below s n ≡ true → some m s p ≡ some n s p
 some_known m n s p few known =
     same_test (some m s p) (some n s p)
-    (λ e. let (d, _, member, q) = some_member m s p e in some_is n s p d ((below_members s n).0 known d member) member q)
+    (λ e. let (d, _, member, q) = some_member m s p e in some_is n s p d ((below_members s n).0 known d member)
+        member q)
     (λ e. let (d, l, member, q) = some_member n s p e in some_is m s p d (omega arith) member q)
 
 -- ---- unions
@@ -149,7 +150,7 @@ module _ {A : Type 0} {P : A → Type 0} where
   pub each_take : {xs : List A} (k : ℕ) → Each P xs → Each P (take k xs)
   each_take zero ps = nil
   each_take (suc k) nil = nil
-  each_take (suc k) (cons p ps) = cons p (each_take k ps)
+  each_take (suc k) (cons {x = x} {xs = xs} p ps) = cons p (each_take {xs = xs} k ps)
 
   pub each_if : (t : Bool) {xs : List A} → (t ≡ true → Each P xs) → Each P (cond t xs [])
   each_if true h = h refl

@@ -24,7 +24,8 @@ module _ (labels : List Label) (d : ℕ) (l : Label) (room : d < length labels) 
       → (x : ℕ) → x ≢ s → Backed (set labels d l) x → Backed labels x
   backed_before s old x ne p = record { filled = p.filled; each = λ e m. go e (same_or_not e d) (p.each e m) }
     where
-      go : (e : ℕ) → (e ≡ d) ⊎ (e ≢ d) → Backs second (label_at (set labels d l) e) x → Backs second (label_at labels e) x
+      go : (e : ℕ) → (e ≡ d) ⊎ (e ≢ d) → Backs second (label_at (set labels d l) e) x
+          → Backs second (label_at labels e) x
       go e (inl q) h = rw q (old x p.filled ne (rw (q, get_or-set_same labels d l blank room) at h))
       go e (inr q) h = rw (get_or-set_other labels d e l blank q) at h
 

@@ -212,7 +212,8 @@ no_candidate {online} {labels} names stage = go stage (no_candidates names)
 pub named_names : (n online : ℕ) (labels : List Label) → online < 2 ^ n → Names online labels (named n online labels)
 unfolding named
 named_names n online labels known =
-    decide_right online labels (λ stage. found_in (candidates stage n online labels)) (stage_right n online labels known)
+    decide_right online labels (λ stage. found_in (candidates stage n online labels))
+        (stage_right n online labels known)
     stages
 
 -- what a restart of a sound state finds

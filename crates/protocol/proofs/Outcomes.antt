@@ -25,7 +25,8 @@ use Rattle.protocol.proofs.Stores.{apply_append}
 -- ---- refused or not
 
 module _ (refusals : List (ℕ × Bool)) (s : State) (area output : List ℕ) (done : Outcome) where
-  pub refused_or_lem : (P : Outcome → Type 0) → (first_of refusals ≢ 0 → P (outcome (first_of refusals) 0 s area output))
+  pub refused_or_lem : (P : Outcome → Type 0)
+      → (first_of refusals ≢ 0 → P (outcome (first_of refusals) 0 s area output))
       → (first_of refusals ≡ 0 → P done) → P (refused_or refusals s area output done)
   unfolding refused_or
   refused_or_lem P refused passed = go (same_or_not (first_of refusals) 0)
@@ -86,20 +87,20 @@ module _ (stores : List Store) (budget : ℕ) (s : State) (area output : List �
 module _ (stores : List Store) (budget : ℕ) (s : State) (area output : List ℕ) (whole : Ending)
     (further : Outcome → Outcome) (done : (count : ℕ) (w : Disks) → (whole count w).answer.refusal ≡ 0) {o : Outcome}
     (carried : o ≡ carry_out stores budget s area output whole) where
-  abbrev goes_on_lem : Ending
-  goes_on_lem count w = further (whole count w)
+  abbrev goes_on : Ending
+  goes_on count w = further (whole count w)
 
-  pub went_on : o.answer.refusal ≡ 0 → further o ≡ carry_out stores budget s area output goes_on_lem
+  pub went_on : o.answer.refusal ≡ 0 → further o ≡ carry_out stores budget s area output goes_on
   went_on z =
-      cut_or_whole stores budget s area output goes_on_lem (λ p. further o ≡ p)
+      cut_or_whole stores budget s area output goes_on (λ p. further o ≡ p)
       (λ l.
       let cut = ap (λ p. p.answer.refusal) (carried ∙ is_cut stores budget s area output whole l) in
       absurd (omega (arith, z, cut)))
       (λ l. ap further (carried ∙ is_whole stores budget s area output whole l))
 
-  pub left_off : o.answer.refusal ≢ 0 → o ≡ carry_out stores budget s area output goes_on_lem
+  pub left_off : o.answer.refusal ≢ 0 → o ≡ carry_out stores budget s area output goes_on
   left_off ne =
-      cut_or_whole stores budget s area output goes_on_lem (λ p. o ≡ p)
+      cut_or_whole stores budget s area output goes_on (λ p. o ≡ p)
       (λ l. carried ∙ is_cut stores budget s area output whole l)
       (λ l. absurd (ne (ap (λ p. p.answer.refusal) (carried ∙ is_whole stores budget s area output whole l)
       ∙ done _ _)))

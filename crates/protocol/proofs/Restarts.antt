@@ -241,7 +241,8 @@ module _ (n b : ℕ) (c : Contents) (s : ℕ) (labels : List Label) where
     resyncs_done : Resynced (regions b) (apply_all b (resyncs n b labels s) w)
     unfolding resyncs
     resyncs_done =
-        loop b region_list (regions b) Resynced (λ r l v g. (iteration r v g (some n s (λ d. is_dirty labels d r)) refl).0)
+        loop b region_list (regions b) Resynced (λ r l v g.
+            (iteration r v g (some n s (λ d. is_dirty labels d r)) refl).0)
         (regions b) (omega arith) w begin
 
     -- so all members of s hold the reference contents

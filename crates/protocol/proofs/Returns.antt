@@ -173,7 +173,8 @@ module _ (s : State) (area output : List ℕ) (d : ℕ) where
               go (fails t) = t
 
     -- the stored label brings the disk back, whatever follows it
-    pub stored_returns : (rest : List ℕ) → (attach_outcome s area output d (stored_label s d ++ rest)).answer.refusal ≡ 0
+    pub stored_returns : (rest : List ℕ) → (attach_outcome s area output d (stored_label s d ++ rest)).answer.refusal
+        ≡ 0
     stored_returns rest = go (test (has s.online d))
       where
         go : Test (has s.online d) → (attach_outcome s area output d (stored_label s d ++ rest)).answer.refusal ≡ 0

@@ -125,7 +125,8 @@ fit_member_lem g d l = (
   λ h. implied (has g d) _ (λ m. rw (eq-eqb _ _ (h m).0, eq-eqb _ _ (h m).1)),
 )
 
-fit_power_lem : (n : ℕ) (labels : List Label) (power : Power) → (fit_power n labels power ≡ true) ↔ FitPower n labels power
+fit_power_lem : (n : ℕ) (labels : List Label) (power : Power)
+    → (fit_power n labels power ≡ true) ↔ FitPower n labels power
 unfolding fit_power fit_member
 fit_power_lem n labels Stopped = (λ e. tt, λ h. refl)
 fit_power_lem n labels (Running g) = (
@@ -153,7 +154,12 @@ test_agrees s = (
       (fit_labels s.disks s.blocks s.labels && fit_power s.disks s.labels s.power) e1 in
       let (r, t) = and_parts (fit_labels s.disks s.blocks s.labels)
       (fit_power s.disks s.labels s.power) e2 in
-      record { range = (in_range_lem _ _).0 p; online = q; labels = (fit_labels_lem _ _ _).0 r; power = (fit_power_lem _ _ _).0 t },
+      record {
+        range = (in_range_lem _ _).0 p;
+        online = q;
+        labels = (fit_labels_lem _ _ _).0 r;
+        power = (fit_power_lem _ _ _).0 t;
+      },
   λ h.
       rw (
         (in_range_lem s.disks s.blocks).1 h.range,

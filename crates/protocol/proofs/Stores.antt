@@ -35,7 +35,8 @@ module _ (b : ℕ) where
   abbrev pub Along : (Disks → Type 0) → List Store → Disks → Type 0
   Along P stores w = (k : ℕ) → P (apply_all b (take k stores) w)
 
-  pub along_append : (P : Disks → Type 0) (xs ys : List Store) (w : Disks) → Along P xs w → Along P ys (apply_all b xs w)
+  pub along_append : (P : Disks → Type 0) (xs ys : List Store) (w : Disks) → Along P xs w
+      → Along P ys (apply_all b xs w)
       → Along P (xs ++ ys) w
   along_append P xs ys w first second k = go (cut xs ys k)
     where

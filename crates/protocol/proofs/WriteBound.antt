@@ -82,4 +82,4 @@ reported_bound s area output k bytes budget =
     refused_cut_or_whole (write_list s k bytes) budget s area output _ (block_refusals s area k bytes)
     (λ o. o.answer.stores ≤ size (live s) * 4) (λ ne. omega arith)
     (λ e i. omega (arith, i, list_most s k bytes (block_passed s area k bytes e).fit))
-    (λ e i. list_most s k bytes (block_passed s area k bytes e).fit)
+    (λ e i. omega (arith, list_most s k bytes (block_passed s area k bytes e).fit))

@@ -65,7 +65,7 @@ module _ (n b : ℕ) (c : Contents) (l : ℕ) where
 
     mark_it : (d : ℕ) → d < n → (v : Disks) → Marked v → Marked (apply b (mark d r) v)
     mark_it d k v s = record {
-      in_sync = mark_one d r v s.in-sync;
+      in_sync = mark_one d r v s.in_sync;
       kept_dirty = λ e q z. mark_keeps b d r v e q (s.kept_dirty e q z);
     }
 
@@ -78,14 +78,14 @@ module _ (n b : ℕ) (c : Contents) (l : ℕ) where
         (λ d k v s. make d k v s (has l d) (is_dirty labels d r) refl)
         (λ d e k j v s q m. stay d e k v s (q m) (has l d) (is_dirty labels d r))
         w (record { in_sync = h; kept_dirty = same }) in
-        (s.in-sync, λ d m. all d (member_below l n d h.agreed.known m) m)
+        (s.in_sync, λ d m. all d (member_below l n d h.agreed.known m) m)
       where
         make : (d : ℕ) → d < n → (v : Disks) → Marked v → (t u : Bool) → is_dirty labels d r ≡ u
             → Marked (apply_all b (cond t (cond u [] (mark d r ∷ [])) []) v)
             × (t ≡ true → is_dirty (apply_all b (cond t (cond u [] (mark d r ∷ [])) []) v).labels d r ≡ true)
         make d k v s false u e = (s, λ z. absurd (let y : ◌≡◌ {A = ℕ} 0 1 = cc in omega arith))
         make d k v s true true e = (s, λ z. s.kept_dirty d r e)
-        make d k v s true false e = (mark_it d k v s, λ z. mark_sets b d r v (omega (arith, s.in-sync.room)))
+        make d k v s true false e = (mark_it d k v s, λ z. mark_sets b d r v (omega (arith, s.in_sync.room)))
 
         stay : (d e : ℕ) → d < n → (v : Disks) → Marked v → is_dirty v.labels e r ≡ true → (t u : Bool)
             → is_dirty (apply_all b (cond t (cond u [] (mark d r ∷ [])) []) v).labels e r ≡ true
@@ -262,7 +262,8 @@ module _ (c : Cabinet) (k : ℕ) (bytes : List ℕ) where
       contents_with stores = cond (include (source l) k stores) (replaced k bytes contents) contents
 
       uncounted : (stores : List Store) → include (source l) k stores ≡ false
-          → Restartable n b contents (apply_all b stores w) → Restartable n b (contents_with stores) (apply_all b stores w)
+          → Restartable n b contents (apply_all b stores w)
+              → Restartable n b (contents_with stores) (apply_all b stores w)
       uncounted stores e r = rw e r
 
       write_cut : (budget : ℕ)

@@ -1,12 +1,14 @@
 // Document 01's cabinet: the types of its state, its calls and their answers. The definitions over them stand in
 // specs/, the theorems in proofs/; no call runs here.
+#![tactic(auto)]
+
 use label::Label;
 use sets::{DISKS, Mask};
 
 pub mod geometry;
 
 // "a power condition: either running with a current set G, or stopped with none"
-#[derive(Drop)]
+#[derive(Clone, Copy)]
 pub enum Power {
     Stopped,
     Running(Mask),
@@ -14,7 +16,7 @@ pub enum Power {
 
 // "The state holds n, b, the labels of eight disks in an array, the set R of disks in reach, and a power condition."
 // disks is n, blocks is b, online is R.
-#[derive(Drop)]
+#[derive(Clone, Copy)]
 pub struct State {
     pub disks: u8,
     pub blocks: u8,
@@ -24,7 +26,7 @@ pub struct State {
 }
 
 // What every call yields beside its buffers: the refusal's number, 0 if done; the number of stores made; the state.
-#[derive(Drop)]
+#[derive(Clone, Copy)]
 pub struct Answer {
     pub refusal: u8,
     pub stores: u16,
@@ -34,7 +36,7 @@ pub struct Answer {
 // Why a disk's own set is no candidate of a stage, or that it is one (document 02, 2.2): in the order of the paper's
 // sentence, with the disk that the sentence names. `reason_number` and `reason_disk` of specs/Diagnosis.antt give each
 // case's number and value.
-#[derive(Drop)]
+#[derive(Clone, Copy)]
 pub enum Reason {
     NoReason,
     Empty,
@@ -46,7 +48,7 @@ pub enum Reason {
 
 // What a diagnosis yields: the refusal's number, 0 if done; the reason; the set that a restart would find without the
 // disk, else 0.
-#[derive(Drop)]
+#[derive(Clone, Copy)]
 pub struct Diagnosis {
     pub refusal: u8,
     pub reason: Reason,
@@ -56,7 +58,7 @@ pub struct Diagnosis {
 // The calls of document 01's list, "The list and the book", and those that document 02 adds to it. Numbers are wider
 // than the state's own, so that 256 is no disk 0; the budget is the paper's supply, 0 to 65,535. A write's data, a
 // read's output and the label that a returned disk shows are lent beside the call.
-#[derive(Drop)]
+#[derive(Clone, Copy)]
 pub enum Call {
     Read { block: usize, budget: u16 },
     Write { block: usize, budget: u16 },

@@ -41,7 +41,8 @@ unfolding resyncs_of for_each
 nothing_dirty n b set = for_none (regions b) (resync n b set)
 
 -- the copies of a region are no more than a region's blocks times the disks
-pub resync_most : (blocks count : ℕ) → blocks ≤ region_size → count ≤ most_disks → blocks * count ≤ region_size * most_disks
+pub resync_most : (blocks count : ℕ) → blocks ≤ region_size → count ≤ most_disks
+    → blocks * count ≤ region_size * most_disks
 resync_most blocks count few members = omega (arith, mul-le-mul_right count few)
 
 module _ (n b set r : ℕ) where

@@ -30,7 +30,8 @@ one_before paragraph j i other e inside = rw (← e, drop-cons paragraph j other
 -- ---- where there is none
 
 -- where a paragraph gives 0, its first condition does not hold, and neither do the later ones
-pub none_of : (number : ℕ) (unfit : Bool) (later : List (ℕ × Bool)) → 0 < number → first_of ((number, unfit) ∷ later) ≡ 0
+pub none_of : (number : ℕ) (unfit : Bool) (later : List (ℕ × Bool)) → 0 < number → first_of ((number, unfit) ∷ later)
+    ≡ 0
     → (unfit ≡ false) × (first_of later ≡ 0)
 unfolding first_of
 none_of number true later h e = absurd (omega arith)

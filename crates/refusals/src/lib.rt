@@ -1,11 +1,13 @@
 // Refusals: their numbers, and which one a call gives (document 01, "What each call refuses").
+#![tactic(auto)]
+
 ghost use Rattle.std.specs.Prelude.{◌≡◌, cond, eqb};
 ghost use Rattle.refusals.specs.Refusals.{first_of, entries};
 
 pub mod numbers;
 
 // A line of a call's paragraph: a refusal's number, and whether its condition holds.
-#[derive(Drop)]
+#[derive(Clone, Copy)]
 pub struct Refusal(pub u8, pub bool);
 
 // As many lines as the longest paragraph has. A shorter one is filled up with PASSED.

@@ -2,6 +2,8 @@
 //
 // A map's width stands here, in RegionMap and REGIONS, apart from the width of a set of disks. What the operations
 // mean, and their laws, are those of sets (crate `sets`), which name no width.
+#![tactic(auto)]
+
 ghost use Rattle.std.specs.Prelude.{◌≡◌, ◌<◌};
 ghost use Rattle.sets.specs.Sets.{has, union, difference, singleton, below};
 

@@ -1,4 +1,6 @@
 // The line that answers a line of the cabinet program.
+#![tactic(auto)]
+
 ghost use Rattle.std.specs.Prelude.{◌+◌, ◌≤◌, length};
 ghost use Rattle.buffers.specs.Buffers.{Stored};
 ghost use Rattle.replies.specs.Replies.{field_most, reply_most, field, reply_line};
@@ -6,7 +8,7 @@ ghost use Rattle.replies.specs.Replies.{field_most, reply_most, field, reply_lin
 use sets::Mask;
 
 // The five numbers: current is G, 0 if stopped; online is R; byte is the first byte read, 0 unless a read was done.
-#[derive(Drop)]
+#[derive(Clone, Copy)]
 pub struct Reply {
     pub result: u8,
     pub stores: u16,
@@ -22,7 +24,7 @@ pub const REPLY_MOST: usize = 30;
 fn put_field(out: &mut [u8], at: usize, n: u16, end: u8) -> usize
     requires { at + field_most ≤ length out.old }
     ensures stored { Stored at (field n end) out.old result out.new }
-    ensures upper_bound { result ≤ at + field_most }
+    ensures bounded { result ≤ at + field_most }
 {
     let last = decimal::put(out, at, n);
     out[last] = end;
@@ -33,7 +35,7 @@ fn put_field(out: &mut [u8], at: usize, n: u16, end: u8) -> usize
 pub fn put_reply(out: &mut [u8], at: usize, reply: Reply) -> usize
     requires { at + reply_most ≤ length out.old }
     ensures stored { Stored at (reply_line reply) out.old result out.new }
-    ensures upper_bound { result ≤ at + reply_most }
+    ensures bounded { result ≤ at + reply_most }
 {
     let stores = put_field(out, at, reply.result as u16, b' ');
     let current = put_field(out, stores, reply.stores, b' ');

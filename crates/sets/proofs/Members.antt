@@ -66,7 +66,8 @@ below_end (suc k) s i h = go (place (members k s) (has s k) k i h) (below_end k 
     go (inside l e) ih = omega (arith, ih l)
     go (last l e) ih = omega arith
 
-pub members_ascend : (k s i j : ℕ) → i < j → j < length (members k s) → get_or (members k s) i 0 < get_or (members k s) j 0
+pub members_ascend : (k s i j : ℕ) → i < j → j < length (members k s)
+    → get_or (members k s) i 0 < get_or (members k s) j 0
 unfolding members
 members_ascend zero s i j l h = absurd (omega arith)
 members_ascend (suc k) s i j l h =

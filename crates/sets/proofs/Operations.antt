@@ -87,7 +87,8 @@ and_complement (suc k) a b ha hb =
     (omega (arith, and_step a b, and_le_l (a / 2) (b / 2)))
 
 -- the same of a mask of code, whatever its width
-pub mask_complement : {w : Width} {a b : ℕ} → Fits w a → b < 2 ^ bits w → bit_and a (2 ^ bits w - 1 - b) ≡ difference a b
+pub mask_complement : {w : Width} {a b : ℕ} → Fits w a → b < 2 ^ bits w → bit_and a (2 ^ bits w - 1 - b)
+    ≡ difference a b
 mask_complement {w} fa hb = and_complement (bits w) _ _ fa.fits hb
 
 -- ---- a set of one disk, and of the disks below n

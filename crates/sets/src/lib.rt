@@ -2,6 +2,8 @@
 //
 // A set's width stands here, in Mask and DISKS and in the two counts that name the integer type. No definition, law or
 // proof names it.
+#![tactic(auto)]
+
 ghost use Rattle.std.specs.Prelude.{◌≡◌, cond, ◌^◌, ◌<◌, ◌≤◌};
 ghost use Rattle.sets.specs.Sets.{has, union, intersection, difference, subset};
 ghost use Rattle.sets.specs.Sets.{singleton, all, below, size, lowest};

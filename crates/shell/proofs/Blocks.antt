@@ -32,7 +32,8 @@ module _ (block : List ℕ) (i : ℕ) (here : i < length block) (d : Dialogue) {
   unfolding after_input
   after_next e = e ∙ rw (so_far, add-one i, take-suc block i 0 here) (sym (after_append (take i block) _ d))
 
-  printed_next : printed_input (take (i + 1) block) d ≡ printed_input (take i block) d ++ printed_byte (get_or block i 0) q
+  printed_next : printed_input (take (i + 1) block) d
+      ≡ printed_input (take i block) d ++ printed_byte (get_or block i 0) q
   unfolding printed_input
   printed_next = rw (so_far, add-one i, take-suc block i 0 here) (printed_append (take i block) _ d ∙ rw append-nil)
 

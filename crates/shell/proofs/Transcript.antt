@@ -22,7 +22,8 @@ use Rattle.shell.proofs.Blocks.{after_append, printed_append}
 
 lines_with_lem : List ℕ → List ℕ → List (List ℕ)
 lines_with_lem line [] = cond (eqb (length line) 0) [] (line ∷ [])
-lines_with_lem line (x ∷ input) = cond (eqb x 10) (line ∷ lines_with_lem [] input) (lines_with_lem (line ++ (x ∷ [])) input)
+lines_with_lem line (x ∷ input) =
+    cond (eqb x 10) (line ∷ lines_with_lem [] input) (lines_with_lem (line ++ (x ∷ [])) input)
 
 abbrev prefixed : List ℕ → List (List ℕ) → List (List ℕ)
 prefixed [] later = later
@@ -98,7 +99,8 @@ by_lines (x ∷ input) line m =
     go (test (eqb x 10)) (by_lines input [] (line_executed line m).machine) (by_lines input (line ++ (x ∷ [])) m)
   where
     go : Test (eqb x 10)
-        → IsLines input (mid_line (line_executed line m).machine []) (lines_with_lem [] input) (line_executed line m).machine
+        → IsLines input (mid_line (line_executed line m).machine []) (lines_with_lem [] input)
+            (line_executed line m).machine
         → IsLines input (mid_line m (line ++ (x ∷ []))) (lines_with_lem (line ++ (x ∷ [])) input) m
         → IsLines (x ∷ input) (mid_line m line) (lines_with_lem line (x ∷ input)) m
     go (passes e) ended continued =

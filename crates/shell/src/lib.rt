@@ -1,4 +1,6 @@
 // Input in blocks: bytes are buffered until their line ends, and replies are collected in a buffer.
+#![tactic(auto)]
+
 ghost use Rattle.std.specs.Prelude.{◌≡◌, ◌+◌, ◌*◌, ◌≤◌, length, take};
 ghost use Rattle.buffers.specs.Buffers.{Stored};
 ghost use Rattle.protocol.specs.States.{zero_state};
@@ -12,7 +14,7 @@ use protocol::State;
 
 // Between two bytes: the cabinet's state, how many bytes of the line under way are buffered, and how much of the
 // output is used.
-#[derive(Drop)]
+#[derive(Clone, Copy)]
 pub struct Shell {
     pub state: State,
     pub buffered: usize,

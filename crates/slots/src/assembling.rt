@@ -17,7 +17,7 @@ use sets::{DISKS, Mask};
 use state::{blank_labels, state_of, without_stores, zero};
 
 // What slots are read as: the first refusal of theirs, 0 if there is none, and the labels.
-#[derive(Drop)]
+#[derive(Clone, Copy)]
 struct Slots {
     refusal: u8,
     labels: [Label; DISKS],

@@ -1,6 +1,8 @@
 // "A state is sound when", clause by clause. The sets that must name only disks below n are tested together, as
 // one union, and the loop goes over all eight labels, so that compiled code knows the disk in each iteration: every
 // call begins with this test.
+#![tactic(auto)]
+
 ghost use Rattle.std.specs.Prelude.{◌≡◌};
 ghost use Rattle.protocol.specs.Geometry.{most_disks};
 ghost use Rattle.protocol.specs.Soundness.{in_range, sound};
@@ -29,7 +31,7 @@ fn own_disk(d: usize, set: Mask) -> bool
 
 // What some labels say: whether each is fit by itself, the disks that their sets name, but for members, whose sets are
 // G and none, and the regions that are dirty.
-#[derive(Drop)]
+#[derive(Clone, Copy)]
 struct Survey {
     fit: bool,
     named: Mask,

@@ -1,4 +1,6 @@
 // What calls read off a state, and how a state and an answer are built (document 01, "What the cabinet is").
+#![tactic(auto)]
+
 mod answer;
 mod building;
 mod power;

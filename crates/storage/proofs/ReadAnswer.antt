@@ -42,7 +42,8 @@ module _ (s : State) (k budget : ℕ) (area output : List ℕ) (r : Answer)
 
   pub filled : r.refusal ≡ 0 → filled_out (yields r area output) ≡ answered
   unfolding copies_out
-  filled = went_on (move_to_live s) budget s area output (runs_with (live s) s output) filled_out (λ count w. refl) moved
+  filled =
+      went_on (move_to_live s) budget s area output (runs_with (live s) s output) filled_out (λ count w. refl) moved
 
   pub kept : r.refusal ≢ 0 → yields r area output ≡ answered
   unfolding copies_out

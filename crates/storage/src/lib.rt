@@ -1,4 +1,6 @@
 // The calls on a running cabinet's blocks: read, write and join; each for any state, buffers and numbers.
+#![tactic(auto)]
+
 mod checks;
 mod joining;
 mod reading;

@@ -1,0 +1,29 @@
+use mathlib.Core.Path.{refl, sym, ap}
+use native.Mathlib.Omega.{arith}
+use lib.Seq.{length-take-le}
+use borrow.Author.Rules.{rules}
+use Rattle.console.proofs.Handing.{stored_first}
+use Rattle.console.proofs.serve_once.Goals as goal
+
+pub answer-requires : goal.answer-requires
+answer-requires c =
+    let heard = c.hear-after in
+    let empty = c.requires.1 in
+    record {
+      all = length-take-le _ _ (omega arith);
+      block = _;
+      before = _;
+      prints = stored_first _ _ empty heard.ensures.output;
+      leaves = ap (λ d. d.machine.state) heard.ensures.dialogue;
+    }
+
+pub returns : goal.returns
+returns c =
+    let heard = c.hear-after in
+    let empty = c.requires.1 in
+    rw (c.answer.ensures.0, c.answer.ensures.1)
+    record {
+      dialogue = heard.ensures.dialogue;
+      output = rw empty at heard.ensures.output.1;
+      room = (heard.ensures.room.0, refl);
+    }

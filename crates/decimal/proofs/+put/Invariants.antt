@@ -1,0 +1,4 @@
+use Rattle.decimal.proofs.+put.Given as goal
+
+abbrev pub decreases-put : goal.decreases-put
+decreases-put l = l.n

@@ -1,0 +1,34 @@
+use mathlib.Core.Path.{◌≡◌, refl}
+use Prim.Native.Nat.{◌-◌}
+use native.Mathlib.Numerals.{add-one}
+use native.Mathlib.Omega.{arith}
+use Rattle.protocol.specs.Geometry.{most_disks}
+use Rattle.protocol.specs.Loops.{union_below, disks_where}
+use Rattle.protocol.specs.Naming.{backs}
+use Rattle.finder.specs.Masks.{backers}
+use Rattle.finder.proofs.candidates.backers.Goals as goal
+
+pub loop-d-preserved : goal.loop-d-preserved
+unfolding disks_where union_below
+loop-d-preserved c = (
+  omega arith,
+  rw (
+    add-one,
+    c.union-set.ensures,
+    c.singleton_if.ensures,
+    c.backs.ensures,
+    c.loop-d.invariant.1,
+  ),
+)
+
+pub returns : goal.returns
+unfolding backers
+returns c = let e : c.loop-d.d ≡ most_disks = omega arith in rw e at c.loop-d.invariant.1
+
+pub loop-d-init : goal.loop-d-init
+unfolding disks_where union_below
+loop-d-init c = (omega arith, refl)
+
+pub singleton_if-requires : goal.singleton_if-requires
+unfolding disks_where union_below
+singleton_if-requires c = omega arith

@@ -1,0 +1,18 @@
+use mathlib.Core.Path.{◌≡◌, refl}
+use Prim.Native.Nat.{◌-◌}
+use native.Mathlib.Numerals.{add-one}
+use native.Mathlib.Omega.{arith}
+use Rattle.protocol.specs.Geometry.{most_disks}
+use Rattle.soundness.specs.Clauses.{survey_below}
+use Rattle.soundness.proofs.survey_labels.Goals as goal
+
+pub loop-d-preserved : goal.loop-d-preserved
+unfolding survey_below
+loop-d-preserved c = (omega arith, rw (add-one, c.add-survey.ensures, c.loop-d.invariant.1))
+
+pub returns : goal.returns
+returns c = let e : c.loop-d.d ≡ most_disks = omega arith in rw e at c.loop-d.invariant.1
+
+pub loop-d-init : goal.loop-d-init
+unfolding survey_below
+loop-d-init c = (omega arith, refl)

@@ -1,0 +1,2 @@
+use borrow.Author.Rules.{rules}
+use Rattle.state.proofs.power.current.Goals as goal

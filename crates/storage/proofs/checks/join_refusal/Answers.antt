@@ -1,0 +1,18 @@
+use Rattle.refusals.specs.Refusals.{first_of}
+use Rattle.protocol.specs.Calls.{join_refusals}
+use Rattle.storage.proofs.checks.join_refusal.Goals as goal
+
+pub returns : goal.returns
+unfolding join_refusals first_of
+returns c held h =
+    rw (
+      h,
+      c.first_of.ensures,
+      c.live-live.ensures,
+      c.has-member.ensures,
+      c.current.ensures,
+      c.has-online.ensures,
+      c.is_running-running.ensures,
+      c.fits-fits.ensures,
+      c.sound-is_sound.ensures,
+    )
