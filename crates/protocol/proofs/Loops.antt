@@ -93,7 +93,7 @@ pub some_known : (m n s : ℕ) (p : ℕ → Bool) → n ≤ m → below s n ≡ 
 some_known m n s p few known =
     same_test (some m s p) (some n s p)
     (λ e. let (d, _, member, q) = some_member m s p e in some_is n s p d ((below_members s n).0 known d member)
-        member q)
+    member q)
     (λ e. let (d, l, member, q) = some_member n s p e in some_is m s p d (omega arith) member q)
 
 -- ---- unions

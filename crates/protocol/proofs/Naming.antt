@@ -213,7 +213,7 @@ pub named_names : (n online : ℕ) (labels : List Label) → online < 2 ^ n → 
 unfolding named
 named_names n online labels known =
     decide_right online labels (λ stage. found_in (candidates stage n online labels))
-        (stage_right n online labels known)
+    (stage_right n online labels known)
     stages
 
 -- what a restart of a sound state finds

@@ -83,7 +83,7 @@ module _ (c : Cabinet) where
     -- a paragraph begins with 1 and has no other 1; refused, the call carries out no write
     pub unless_refused : (later : List (ℕ × Bool)) (output : List ℕ) (done : Outcome) → lacks 1 later ≡ true
         → (first_of (unsound s ∷ later) ≢ 0 → writes ≡ [])
-            → (first_of (unsound s ∷ later) ≡ 0 → Preserves c writes done)
+        → (first_of (unsound s ∷ later) ≡ 0 → Preserves c writes done)
         → Preserves c writes (refused_or (unsound s ∷ later) s c.area output done)
     unfolding after_writes
     unless_refused later output done others none =

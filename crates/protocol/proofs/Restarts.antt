@@ -242,7 +242,7 @@ module _ (n b : ℕ) (c : Contents) (s : ℕ) (labels : List Label) where
     unfolding resyncs
     resyncs_done =
         loop b region_list (regions b) Resynced (λ r l v g.
-            (iteration r v g (some n s (λ d. is_dirty labels d r)) refl).0)
+        (iteration r v g (some n s (λ d. is_dirty labels d r)) refl).0)
         (regions b) (omega arith) w begin
 
     -- so all members of s hold the reference contents

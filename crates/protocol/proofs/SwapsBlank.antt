@@ -65,7 +65,7 @@ module _ (s : State) (area output : List ℕ) (d budget : ℕ) where
   unfolding swap_outcome apply_all
   swap_ends P refused cut whole =
       refused_or_lem (swap_refusals s area d) s area output _ P refused
-          (λ e. go (swap_passed s area d e) (test (has g d)))
+      (λ e. go (swap_passed s area d e) (test (has g d)))
     where
       go : SwapPassed s area d → Test (has g d)
           → P (carry_out (swap_list s d) budget s area output (swaps_in s d output))

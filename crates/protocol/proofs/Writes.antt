@@ -263,7 +263,7 @@ module _ (c : Cabinet) (k : ℕ) (bytes : List ℕ) where
 
       uncounted : (stores : List Store) → include (source l) k stores ≡ false
           → Restartable n b contents (apply_all b stores w)
-              → Restartable n b (contents_with stores) (apply_all b stores w)
+          → Restartable n b (contents_with stores) (apply_all b stores w)
       uncounted stores e r = rw e r
 
       write_cut : (budget : ℕ)
