@@ -73,7 +73,7 @@ module _ (area : List ℕ) (b d k from to : ℕ) (h : InArea b d k area) (starts
   unfolding block
   disk_loads output e =
       e ∙ rw (size, place_in) (loaded area from (b * block_size) (omega arith) (k * block_size) block_size
-          (omega arith))
+      (omega arith))
 
   -- all of that part zero
   pub disk_clears : (last : List ℕ) → last ≡ replicate (length (mid_of from (to - from) area)) 0

@@ -92,7 +92,7 @@ module _ (n b from k set : ℕ) (source : from < n) (known : k < b) (apart : has
 
   iterations : (i : ℕ) → i ≤ n → (p : Progress) → Holds p
       → (run_all b (for_each i set (λ d. copy from d k ∷ [])) p
-          ≡ run_all b (for_each i set (λ d. write d k bytes ∷ [])) p)
+      ≡ run_all b (for_each i set (λ d. write d k bytes ∷ [])) p)
       × Holds (run_all b (for_each i set (λ d. write d k bytes ∷ [])) p)
   unfolding for_each ascending run_all
   iterations zero few p holds = (refl, holds)

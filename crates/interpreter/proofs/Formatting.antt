@@ -67,7 +67,7 @@ module _ (n b : ℕ) (m : Machine) where
     unfolding format_outcome
     no_stores =
         refused_or_lem (format_refusals n b lent) zero_state lent [] _ (λ o. o.answer.stores ≡ 0) (λ ne. refl)
-            (λ z. refl)
+        (λ z. refl)
 
     pub good_reply : (executed (Format n b) m).reply ≡ reply_to 0 0 (formatted n b) 0
     unfolding executed format_executed kept_state

@@ -22,7 +22,7 @@ use Rattle.protocol.specs.Soundness.{Sound}
 use Rattle.protocol.specs.Naming.{Stage, first, second, third, none, Backs, Proposes, Candidate, Exactly}
 use Rattle.protocol.specs.Naming.{no_set, one_set, several_sets, candidate, found_in, stages, found_by}
 use Rattle.protocol.specs.Finder.{tried, tried_at, repeated, is_listed, shortlist, ShortlistRight}
-use Rattle.protocol.specs.Finder.{passing, found_among, among, find, FindsNamed}
+use Rattle.protocol.specs.Finder.{passing, among, find, FindsNamed}
 use Rattle.protocol.proofs.Loops.{some_at, some_of, nothing_before, length_if, ascending-length}
 use Rattle.protocol.proofs.Loops.{ascending_lists, lists_ascending}
 use Rattle.protocol.proofs.Naming.{candidate_if, candidate_below, if_candidate}
@@ -163,7 +163,7 @@ passing_append p (x ∷ xs) ys = rw (passing_append p xs ys) (go (p x))
 
 module _ (n online : ℕ) (labels : List Label) (known : online < 2 ^ n) where
   among_right : (stage : Stage) → Exactly (Candidate stage online labels) (among stage n online labels)
-  unfolding among found_among
+  unfolding among
   among_right stage =
       exactly_map
       (λ x (m, e). candidate_if stage n online labels known x e)
@@ -173,7 +173,7 @@ module _ (n online : ℕ) (labels : List Label) (known : online < 2 ^ n) where
 -- a stage without a set to test
 pub nothing_listed : (stage : Stage) (n online : ℕ) (labels : List Label)
     → ((d : ℕ) → d < n → tried_at stage labels d ≡ 0) → among stage n online labels ≡ none
-unfolding among found_among shortlist passing found_in
+unfolding among shortlist passing found_in
 nothing_listed stage n online labels empty =
     let f : ℕ → List ℕ = λ d. cond (is_listed stage labels d) (tried_at stage labels d ∷ []) [] in
     rw (nothing_before f n (λ d l. rw (empty d l)) n (omega arith))

@@ -52,9 +52,9 @@ passing p (x ∷ xs) = cond (p x) (x ∷ passing p xs) (passing p xs)
 unfoldable pub found_among : Stage → ℕ → ℕ → List Label → List ℕ → Found
 found_among stage n online labels xs = found_in (passing (candidate stage n online labels) xs)
 
--- what a stage finds: among the sets of its own list
+-- what a stage finds: which sets of its list are candidates
 unfoldable pub among : Stage → ℕ → ℕ → List Label → Found
-among stage n online labels = found_among stage n online labels (shortlist stage n labels)
+among stage n online labels = found_in (passing (candidate stage n online labels) (shortlist stage n labels))
 
 unfoldable pub find : ℕ → ℕ → List Label → Found
 find n online labels = decide (λ stage. among stage n online labels) stages

@@ -100,7 +100,7 @@ by_lines (x ∷ input) line m =
   where
     go : Test (eqb x 10)
         → IsLines input (mid_line (line_executed line m).machine []) (lines_with_lem [] input)
-            (line_executed line m).machine
+        (line_executed line m).machine
         → IsLines input (mid_line m (line ++ (x ∷ []))) (lines_with_lem (line ++ (x ∷ [])) input) m
         → IsLines (x ∷ input) (mid_line m line) (lines_with_lem line (x ∷ input)) m
     go (passes e) ended continued =

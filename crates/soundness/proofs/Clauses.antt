@@ -144,7 +144,7 @@ module _ (n g regions : ℕ) (labels : List Label) (inside : (d : ℕ) → has g
   fit_all zero h = record { fit = refl; named = below_empty n; dirty = below_empty regions }
   fit_all (suc k) h =
       with_one_lem n g regions k (label_at labels k) (inside k) _ (fit_all k (λ d l. h d (omega arith)))
-          (h k (omega arith))
+      (h k (omega arith))
 
 -- a label all zero is fit for any disk
 blank_fit : (n b d : ℕ) → FitLabel n b d blank

@@ -1,6 +1,5 @@
 use mathlib.Core.Path.{◌≡◌, refl}
 use mathlib.Core.Path.{refl}
-use Prim.Native.Nat.{◌-◌}
 use native.Mathlib.Omega.{arith}
 use borrow.Author.Tests.{ne_eqb}
 use Rattle.sets.proofs.Tests.{positive}
@@ -35,12 +34,12 @@ loop-k-preserved c =
     let a = c.args in (
       omega arith,
       elim c.if-run-ne0.branch [
-        then-run-ne0 w ↦ rw w.area-is (omega (arith, w.store.auto.area))
+        | then-run-ne0 w ↦ rw w.area-is (omega (arith, w.store.auto.area))
         | else-run-ne0 w ↦ rw w.area-is at.invariant.1
       ],
       run_next _ _ _ _ at.invariant.2
           (elim c.if-run-ne0.branch [
-            then-run-ne0 w ↦ rw (w.run-is, w.area-is, w.store.ensures, w.load.ensures)
+            | then-run-ne0 w ↦ rw (w.run-is, w.area-is, w.store.ensures, w.load.ensures)
                 (copy_made a.size.blocks a.from a.to at.k at.run at.area w.if-run-ne0.true)
             | else-run-ne0 w ↦ rw (w.run-is, w.area-is)
                 (power_gone a.size.blocks (copy a.from a.to at.k) (progress at.run at.area) w.if-run-ne0.false)

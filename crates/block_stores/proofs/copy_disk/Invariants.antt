@@ -11,7 +11,7 @@ abbrev pub invariant-loop-k : goal.invariant-loop-k
 invariant-loop-k l =
     (l.k ≤ l.blocks) × (length l.area ≡ length l.initial.area)
     × (progress l.run l.area ≡ run_all l.blocks (ascending l.k (λ j. copy l.from l.to j ∷ []))
-        (progress l.initial.run l.initial.area))
+    (progress l.initial.run l.initial.area))
 
 abbrev pub decreases-loop-k : goal.decreases-loop-k
 decreases-loop-k l = l.blocks - l.k

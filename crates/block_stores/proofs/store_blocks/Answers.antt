@@ -1,9 +1,7 @@
 use mathlib.Core.Path.{◌≡◌, refl}
 use mathlib.Core.Path.{refl}
-use Prim.Native.Nat.{◌-◌}
 use native.Mathlib.Omega.{arith}
 use borrow.Author.Tests.{not-true}
-use borrow.Author.Rules.{rules}
 use Rattle.sets.proofs.Tests.{and_parts, positive}
 use Rattle.protocol.specs.Stores.{write}
 use Rattle.protocol.specs.Loops.{ascending, for_each}
@@ -36,12 +34,12 @@ loop-d-preserved c =
     let asked = c.has.ensures in (
       omega arith,
       elim c.if-run-has.branch [
-        then-run-has w ↦ rw w.area-is (omega (arith, w.store.auto.area))
+        | then-run-has w ↦ rw w.area-is (omega (arith, w.store.auto.area))
         | else-run-has w ↦ rw w.area-is at.invariant.1
       ],
       run_next _ _ _ _ at.invariant.2
           (elim c.if-run-has.branch [
-            then-run-has w ↦ rw (w.run-is, w.area-is, w.store.ensures)
+            | then-run-has w ↦ rw (w.run-is, w.area-is, w.store.ensures)
                 (block_made a.size.blocks a.set at.d a.k a.bytes at.run at.area (rw asked at w.if-run-has.true))
             | else-run-has w ↦ rw (w.run-is, w.area-is)
                 (none_made a.size.blocks a.set at.d (write at.d a.k a.bytes)

@@ -11,7 +11,7 @@ abbrev pub invariant-loop-d : goal.invariant-loop-d
 invariant-loop-d l =
     (l.d ≤ l.n) × (length l.area ≡ length l.initial.area)
     × (progress l.run l.area ≡ run_all l.size.blocks (for_each l.d l.set (λ e. write e l.k l.bytes ∷ []))
-        (progress l.initial.run l.initial.area))
+    (progress l.initial.run l.initial.area))
 
 abbrev pub decreases-loop-d : goal.decreases-loop-d
 decreases-loop-d l = l.n - l.d

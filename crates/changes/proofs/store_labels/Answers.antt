@@ -1,5 +1,4 @@
 use mathlib.Core.Path.{◌≡◌, refl}
-use Prim.Native.Nat.{◌-◌}
 use native.Mathlib.Omega.{arith}
 use borrow.Author.Tests.{not-true}
 use Rattle.sets.proofs.Tests.{and_parts, positive}
@@ -38,7 +37,7 @@ loop-d-preserved c =
       omega arith,
       λ b area. run_next b _ _ _ (at.invariant.1 b area)
           (elim c.if-left-has.branch [
-            then-left-has w ↦ rw (w.labels-is, w.left-is, w.changed-l.ensures)
+            | then-left-has w ↦ rw (w.labels-is, w.left-is, w.changed-l.ensures)
                 (label_made b a.set at.d a.change run area (rw asked at w.if-left-has.true))
             | else-left-has w ↦ rw (w.labels-is, w.left-is)
                 (none_made b a.set at.d (change_on a.change at.d) (progress run area) (rw asked at w.if-left-has.false))

@@ -1,7 +1,6 @@
-use mathlib.Core.Path.{refl, sym, ap}
+use mathlib.Core.Path.{refl, ap}
 use native.Mathlib.Omega.{arith}
 use lib.Seq.{length-take-le}
-use borrow.Author.Rules.{rules}
 use Rattle.console.proofs.Handing.{stored_first}
 use Rattle.console.proofs.serve_once.Goals as goal
 

@@ -2,7 +2,7 @@ use mathlib.Core.Path.{refl, ap}
 use mathlib.Core.List.{[], ◌∷◌}
 use Prim.Native.Nat.{◌+◌, ◌/◌, ◌%◌, ◌<◌}
 use native.Mathlib.Omega.{arith}
-use lib.ListN.{length, length-set}
+use lib.ListN.{length}
 use Rattle.buffers.proofs.Splicing.{splice_one, splice_after}
 use Rattle.decimal.specs.Numerals.{numeral}
 use Rattle.decimal.proofs.Spelling.{one_digit, one_more, one_longer}

@@ -1,8 +1,6 @@
 use mathlib.Core.Path.{◌≡◌, refl}
-use Prim.Native.Nat.{◌-◌}
 use native.Mathlib.Numerals.{add-one}
 use native.Mathlib.Omega.{arith}
-use Rattle.sets.specs.Sets.{has}
 use Rattle.protocol.specs.Geometry.{most_disks}
 use Rattle.protocol.specs.Loops.{union_below, disks_where}
 use Rattle.dirty.specs.DirtyBits.{dirty_disks}

@@ -1,7 +1,5 @@
 use mathlib.Core.Path.{◌≡◌}
-use Prim.Native.Nat.{◌-◌}
 use native.Mathlib.Omega.{arith}
-use Rattle.sets.specs.Sets.{all}
 use Rattle.protocol.specs.Geometry.{most_disks}
 use Rattle.label.specs.Bytes.{blank}
 use Rattle.formatting.proofs.Fresh.{fresh_next}

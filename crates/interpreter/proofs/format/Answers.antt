@@ -1,5 +1,5 @@
 use mathlib.Core.List.{[]}
-use Rattle.interpreter.proofs.Memory.{lent_length, format_leaves}
+use Rattle.interpreter.proofs.Memory.{format_leaves}
 use Rattle.interpreter.proofs.format.Goals as goal
 
 pub returns : goal.returns

@@ -1,6 +1,4 @@
-use mathlib.Core.Path.{sym}
-use lib.Seq.{length-take-le}
-use Rattle.interpreter.proofs.Memory.{lent_length, call_leaves}
+use Rattle.interpreter.proofs.Memory.{call_leaves}
 use Rattle.interpreter.proofs.perform.Goals as goal
 
 pub returns : goal.returns

@@ -1,7 +1,6 @@
 use mathlib.Core.Path.{refl}
 use mathlib.Core.List.{[], ◌∷◌}
 use native.Mathlib.Omega.{arith}
-use borrow.Author.Rules.{rules}
 use Rattle.buffers.proofs.Splicing.{splice_one, stored_after}
 use Rattle.decimal.specs.Numerals.{numeral}
 use Rattle.decimal.proofs.Numerals.{short}

@@ -10,10 +10,10 @@ use Rattle.shell.proofs.finish.Goals as goal
 pub returns-then-h-eq0 : goal.returns-then-h-eq0
 unfolding printed_end after_end
 returns-then-h-eq0 c = rw c.if-h-eq0.true record {
-      dialogue = refl;
-      output = (sym (add-zero _), sym (splice_nothing _ _));
-      room = (refl, omega arith);
-    }
+  dialogue = refl;
+  output = (sym (add-zero _), sym (splice_nothing _ _));
+  room = (refl, omega arith);
+}
 
 pub returns : goal.returns
 unfolding printed_end after_end

@@ -40,7 +40,6 @@ returns-in_default c =
       ne_eqb words 4 (omega arith),
     )
 
-
 pub returns-then-not-s : goal.returns-then-not-s
 unfolding decoded
 returns-then-not-s c = rw (not-true c.args.s.valid c.if-not-s.true)

@@ -14,7 +14,6 @@ returns-in_default c =
       ne_eqb letter 115 (omega arith),
     )
 
-
 pub returns-in-120 : goal.returns-in-120
 unfolding command_with
 returns-in-120 c = rw (c.plain.ensures, c.in-120.is)

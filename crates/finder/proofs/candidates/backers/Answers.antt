@@ -1,10 +1,8 @@
 use mathlib.Core.Path.{◌≡◌, refl}
-use Prim.Native.Nat.{◌-◌}
 use native.Mathlib.Numerals.{add-one}
 use native.Mathlib.Omega.{arith}
 use Rattle.protocol.specs.Geometry.{most_disks}
 use Rattle.protocol.specs.Loops.{union_below, disks_where}
-use Rattle.protocol.specs.Naming.{backs}
 use Rattle.finder.specs.Masks.{backers}
 use Rattle.finder.proofs.candidates.backers.Goals as goal
 

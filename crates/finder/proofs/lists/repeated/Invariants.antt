@@ -11,7 +11,7 @@ abbrev pub invariant-loop-e : goal.invariant-loop-e
 invariant-loop-e l =
     (l.e ≤ l.d)
     × (some_below l.e (λ i. eqb (tried_at (stage_of l.stage) l.labels l.d) (tried_at (stage_of l.stage) l.labels i))
-        ≡ false)
+    ≡ false)
 
 abbrev pub decreases-loop-e : goal.decreases-loop-e
 decreases-loop-e l = l.d - l.e

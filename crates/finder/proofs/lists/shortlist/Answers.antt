@@ -1,5 +1,4 @@
 use mathlib.Core.Path.{◌≡◌, refl}
-use Prim.Native.Nat.{◌-◌}
 use native.Mathlib.Numerals.{add-one}
 use native.Mathlib.Omega.{arith}
 use Rattle.protocol.specs.Loops.{ascending}
@@ -26,14 +25,19 @@ loop-d-preserved c =
     let again = c.repeated.ensures in (
       omega arith,
       rw add-one (elim c.if-x-repeated.branch [
-            then-x-repeated w ↦
-                rw (w.list-is, at.invariant.1, x, comes_next stage a.labels at.d
-                    (rw (again, x) at w.if-x-repeated.true))
-                (one_more (shortlist stage at.d a.labels) (tried_at stage a.labels at.d)
-                (omega (arith, few stage a.labels at.d)))
-            | else-x-repeated w ↦
-                rw (w.list-is, at.invariant.1, comes_not stage a.labels at.d (rw (again, x) at w.if-x-repeated.false))
-          ]),
+        | then-x-repeated w ↦
+            rw (
+              w.list-is,
+              at.invariant.1,
+              x,
+              comes_next stage a.labels at.d
+                  (rw (again, x) at w.if-x-repeated.true),
+            )
+            (one_more (shortlist stage at.d a.labels) (tried_at stage a.labels at.d)
+            (omega (arith, few stage a.labels at.d)))
+        | else-x-repeated w ↦
+            rw (w.list-is, at.invariant.1, comes_not stage a.labels at.d (rw (again, x) at w.if-x-repeated.false))
+      ]),
     )
 
 pub returns : goal.returns

@@ -27,7 +27,7 @@ unfolding find decide
 returns c =
     let a = c.args in
     elim c.if-proposals-gt0.branch [
-      then-proposals-gt0+else-not-is_nothing+else-not-is_nothing-2 w ↦ rw (
+      | then-proposals-gt0+else-not-is_nothing+else-not-is_nothing-2 w ↦ rw (
         c.among.ensures,
         ← w.among-first.ensures,
         found_later _ _ (sym w.is_nothing.ensures ∙ w.if-not-is_nothing.false),

@@ -12,7 +12,7 @@ abbrev pub invariant-loop-i : goal.invariant-loop-i
 invariant-loop-i l =
     (l.i ≤ l.list.count)
     × (found_of l.found ≡ found_among (stage_of l.stage) l.disks l.online l.labels
-        (ascending l.i (λ e. get_or l.list.sets e 0 ∷ [])))
+    (ascending l.i (λ e. get_or l.list.sets e 0 ∷ [])))
 
 abbrev pub decreases-loop-i : goal.decreases-loop-i
 decreases-loop-i l = l.list.count - l.i

@@ -1,6 +1,5 @@
 use mathlib.Core.Path.{refl, sym, ap, ◌∙◌}
 use borrow.Author.Tests.{eqb-true, lt-ltb}
-use borrow.Author.Rules.{rules}
 use Rattle.sets.proofs.Tests.{and_parts, clash}
 use Rattle.protocol.specs.Naming.{the_set}
 use Rattle.protocol.specs.Calls.{restart_outcome}

@@ -1,7 +1,5 @@
 use mathlib.Core.Path.{◌≡◌, refl}
-use Prim.Native.Nat.{◌-◌}
 use native.Mathlib.Omega.{arith}
-use borrow.Author.Rules.{rules}
 use Rattle.protocol.specs.Geometry.{regions}
 use Rattle.protocol.specs.Loops.{ascending}
 use Rattle.budget.specs.Runs.{run_all}

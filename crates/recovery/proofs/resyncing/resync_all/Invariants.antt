@@ -1,7 +1,6 @@
 use mathlib.Core.Path.{◌≡◌}
 use Prim.Native.Nat.{◌-◌, ◌≤◌}
 use lib.ListN.{length}
-use Rattle.protocol.specs.Geometry.{regions}
 use Rattle.protocol.specs.Loops.{ascending}
 use Rattle.budget.specs.Runs.{progress, run_all}
 use Rattle.recovery.specs.RegionLists.{resync_of}
@@ -12,7 +11,7 @@ invariant-loop-r l =
     (l.r ≤ l.regions) × (length l.area ≡ length l.initial.area)
     × (progress l.run l.area
     ≡ run_all l.size.blocks (ascending l.r (resync_of l.size.disks l.size.blocks l.dirty l.set))
-        (progress l.initial.run l.initial.area))
+    (progress l.initial.run l.initial.area))
 
 abbrev pub decreases-loop-r : goal.decreases-loop-r
 decreases-loop-r l = l.regions - l.r

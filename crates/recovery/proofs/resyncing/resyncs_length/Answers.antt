@@ -1,5 +1,4 @@
 use mathlib.Core.Path.{◌≡◌, refl}
-use Prim.Native.Nat.{◌-◌}
 use native.Mathlib.Omega.{arith}
 use Rattle.protocol.specs.Geometry.{regions}
 use Rattle.protocol.specs.Loops.{ascending}

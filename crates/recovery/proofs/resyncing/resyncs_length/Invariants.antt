@@ -1,7 +1,7 @@
 use mathlib.Core.Path.{◌≡◌}
 use Prim.Native.Nat.{◌+◌, ◌-◌, ◌*◌, ◌≤◌}
 use lib.ListN.{length}
-use Rattle.protocol.specs.Geometry.{most_disks, region_size, regions}
+use Rattle.protocol.specs.Geometry.{most_disks, region_size}
 use Rattle.protocol.specs.Loops.{ascending}
 use Rattle.recovery.specs.RegionLists.{resync_of}
 use Rattle.recovery.proofs.resyncing.resyncs_length.Given as goal

@@ -1,5 +1,4 @@
 use mathlib.Core.Path.{refl}
-use Prim.Native.Nat.{◌-◌}
 use native.Mathlib.Nat.{le_refl}
 use native.Mathlib.Omega.{arith}
 use lib.ListN.{length-take, length-drop}
@@ -13,11 +12,10 @@ use Rattle.slots.proofs.saving.write_slots.Goals as goal
 
 pub write_slot-requires : goal.write_slot-requires
 unfolding longest_label
-write_slot-requires c =
-    (
-      simp (length-take, length-drop) (omega arith),
-      stored_taken c.args.s c.requires.0 _ (omega arith) slot_size (le_refl _),
-    )
+write_slot-requires c = (
+  simp (length-take, length-drop) (omega arith),
+  stored_taken c.args.s c.requires.0 _ (omega arith) slot_size (le_refl _),
+)
 
 pub loop-d-preserved : goal.loop-d-preserved
 unfolding longest_label

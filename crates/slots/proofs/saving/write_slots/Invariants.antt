@@ -11,7 +11,7 @@ abbrev pub invariant-loop-d : goal.invariant-loop-d
 invariant-loop-d l =
     (l.d ≤ l.disks) × (length l.slots ≡ length l.initial.slots)
     × (l.slots ≡ ascending l.d (λ i. slot_bytes i l.disks (label_at l.labels i)) ++ drop (slot_size * l.d)
-        l.initial.slots)
+    l.initial.slots)
 
 abbrev pub decreases-loop-d : goal.decreases-loop-d
 decreases-loop-d l = l.disks - l.d

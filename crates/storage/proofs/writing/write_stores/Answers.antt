@@ -10,11 +10,10 @@ dirty_disks-requires c =
     rw c.size_of-size.ensures c.requires.0.fit.range.disks
 
 pub store_labels-run-requires : goal.store_labels-run-requires
-store_labels-run-requires c =
-    (
-      rw c.size_of-size.ensures c.requires.0.fit.range.disks,
-      omega (arith, c.requires.0.fit.range.blocks, c.requires.1),
-    )
+store_labels-run-requires c = (
+  rw c.size_of-size.ensures c.requires.0.fit.range.disks,
+  omega (arith, c.requires.0.fit.range.blocks, c.requires.1),
+)
 
 pub store_blocks-run-requires : goal.store_blocks-run-requires
 store_blocks-run-requires c =
