@@ -9,7 +9,7 @@ const README_WORDS: usize = 1200;
 /// The most characters of a line.
 const WIDTH: usize = 120;
 /// Folders that are not looked into.
-const BUILT: [&str; 2] = ["target", ".git"];
+const BUILT: [&str; 3] = ["target", ".git", "out"];
 /// Files that declare names beside their own.
 const SOURCES: [&str; 5] = ["rs", "rt", "antt", "h", "c"];
 /// How a line of comment begins: the words in it are no names.
