@@ -134,11 +134,11 @@ fn every_name_in_a_page_is_in_a_source() {
 fn a_name_that_is_nearly_ours_is_found_out() {
     let made_up = [
         "shortlists",
-        "isDirt",
-        "finds-name",
-        "demand-three",
+        "is_dirt",
+        "finds_name",
+        "demand_three",
         "cabinet_joins",
-        "restarted-set",
+        "in_reach-seen",
     ];
     let page = made_up.map(|name| format!("`{name}` ")).concat();
     assert_eq!(unknown(&page, &names()), made_up);
