@@ -9,7 +9,7 @@ const README_WORDS: usize = 1200;
 /// The most characters of a line.
 const WIDTH: usize = 120;
 /// Folders that are not looked into.
-const BUILT: [&str; 2] = ["target", ".git"];
+const BUILT: [&str; 3] = ["target", ".git", "out"];
 /// Files that declare names beside their own.
 const SOURCES: [&str; 5] = ["rs", "rt", "antt", "h", "c"];
 /// How a line of comment begins: the words in it are no names.
@@ -134,11 +134,11 @@ fn every_name_in_a_page_is_in_a_source() {
 fn a_name_that_is_nearly_ours_is_found_out() {
     let made_up = [
         "shortlists",
-        "isDirt",
-        "finds-name",
-        "demand-three",
+        "is_dirt",
+        "finds_name",
+        "demand_three",
         "cabinet_joins",
-        "restarted-set",
+        "in_reach-seen",
     ];
     let page = made_up.map(|name| format!("`{name}` ")).concat();
     assert_eq!(unknown(&page, &names()), made_up);

@@ -13,7 +13,7 @@ pub record Meets (memory₀ : List ℕ) (last : Served) (line memory : List ℕ)
   pub leaves : dialogue last.shell line memory ≡ after_blocks blocks (initial memory₀)
   pub keeps : Keeps memory₀ blocks (lines (flatten blocks))
 
--- Of every run in a memory as `run` asks it that the end of the input ended.
+-- Of every run in a memory as `largest_area` gives it that the end of the input ended.
 abbrev pub RunsMeetDemand3 : Type 0
 RunsMeetDemand3 = (memory₀ : List ℕ) → length memory₀ ≡ area_size most_disks most_blocks
     → (last : Served) (block line memory : List ℕ) → Ran memory₀ last block line memory → last.got ≡ pos 0

@@ -72,7 +72,7 @@ Hold (calls n b since) set memory =
     (d k : ℕ) → has set d ≡ true → k < b → block b memory d k ≡ contents_after n b since k
 
 -- What a write leaves of the book, by its reply: "a write that gives 0 counts, and one cut before that store or
--- otherwise refused does not". `sourceStore` is the place of the store on the source in the list of this state's write.
+-- otherwise refused does not". `source_store` is the store on the source's place in the list of this state's write.
 pub record Counts (k v : ℕ) (s : State) (reply : Reply) (earlier later : Contents) : Type 0 where
   pub acknowledged : reply.result ≡ 0 → later ≡ replaced k (replicate block_size v) earlier
   pub refused : reply.result ≢ 0 → reply.result ≢ 15 → later ≡ earlier

@@ -57,7 +57,7 @@ abbrev pub place_of : ℕ → List (ℕ × Bool) → ℕ
 place_of number [] = 0
 place_of number (refusal ∷ later) = cond (eqb refusal.0 number) 0 (suc (place_of number later))
 
--- `none-at` by the refusal's number: what a proof takes from a paragraph then does not depend on its order
+-- `none_at` by the refusal's number: what a proof takes from a paragraph then does not depend on its order
 pub none_by : (refusals : List (ℕ × Bool)) → numbered refusals ≡ true → first_of refusals ≡ 0 → (number : ℕ)
     → (get_or refusals (place_of number refusals) (1, false)).1 ≡ false
 none_by refusals h e number = none_at refusals h e (place_of number refusals)
