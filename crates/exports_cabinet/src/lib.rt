@@ -1,5 +1,5 @@
 // The calls on the cabinet itself, for programs in C and Rust: it is made, started and stopped, its disks are lost and
-// return, and it is asked why a disk is not current. include/cabinet.h declares the functions.
+// return, and it is asked why a disk is not current. `exports_c` exports the functions.
 #![tactic(auto)]
 
 ghost use Rattle.std.specs.Prelude.{◌≡◌, List, ℕ};

@@ -1,5 +1,5 @@
 // Document 01's calls on labels, for programs in C and Rust: a cabinet's are saved to slots and assembled from them, a
-// single one is read and written. include/cabinet.h declares the functions.
+// single one is read and written. `exports_c` exports the functions.
 #![tactic(auto)]
 
 ghost use Rattle.std.specs.Prelude.{◌≡◌, List, ℕ, length};

@@ -1,5 +1,5 @@
 // The calls on a running cabinet, for programs in C and Rust: blocks are read and written, a disk joins or is swapped
-// for a blank one, dirty bits are cleared. include/cabinet.h declares the functions.
+// for a blank one, dirty bits are cleared. `exports_c` exports the functions.
 #![tactic(auto)]
 
 ghost use Rattle.std.specs.Prelude.{◌≡◌, List, ℕ};

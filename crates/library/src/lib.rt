@@ -1,5 +1,6 @@
-// The exported functions, taken as the library's history takes them: a call of the list as a value, and the format that
-// begins it. Programs in C and Rust call the functions themselves; these two tie each function to the call of its name.
+// The library's functions, taken as its history takes them: a call of the list as a value, and the format that begins
+// it. Programs in C and Rust call the functions themselves, by way of `exports_c`; these two tie each function to the
+// call of its name.
 #![tactic(auto)]
 
 ghost use Rattle.std.specs.Prelude.{◌≡◌};
