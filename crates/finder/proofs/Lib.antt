@@ -1,3 +1,4 @@
 pub mod Masks
 pub mod Walk
 pub mod SetLists
+pub mod OnePass

@@ -27,11 +27,11 @@ use Rattle.protocol.proofs.Reasons.{none_fails}
 use Rattle.finder.specs.Masks.{backers, holders}
 
 module _ (stage : Stage) (labels : List Label) (x : ℕ) where
-  has-backers : (d : ℕ) → has (backers stage labels x) d ≡ (ltb d most_disks && backs stage (label_at labels d) x)
+  pub has-backers : (d : ℕ) → has (backers stage labels x) d ≡ (ltb d most_disks && backs stage (label_at labels d) x)
   unfolding backers
   has-backers = has-disks_where most_disks _
 
-  has-holders : (d : ℕ)
+  pub has-holders : (d : ℕ)
       → has (holders stage labels x) d ≡ (ltb d most_disks && eqb (tried stage (label_at labels d)) x)
   unfolding holders
   has-holders = has-disks_where most_disks _

@@ -17,7 +17,7 @@ use Rattle.finder.specs.Found.{is_none, another}
 
 -- ---- one set more
 
-found_more : (xs : List ℕ) (x : ℕ) → found_in (xs ++ x ∷ []) ≡ another (found_in xs) x
+pub found_more : (xs : List ℕ) (x : ℕ) → found_in (xs ++ x ∷ []) ≡ another (found_in xs) x
 unfolding found_in another
 found_more [] x = refl
 found_more (y ∷ []) x = refl
