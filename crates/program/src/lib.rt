@@ -28,7 +28,8 @@ pub fn hear(
         out.old result.used out.new }
     ensures room { (result.buffered ≤ line_buffer) × (result.used ≤ length out.new) }
 {
-    if got < 0 {
+    let failed = got < 0;
+    if failed {
         return h;
     }
     if got < 1 {

@@ -1,7 +1,7 @@
-use Rattle.flat.proofs.Boundary.{flat_outcome_lem}
+use borrow.Author.Rules.{rules}
+use Rattle.flat.specs.Flat.{flat_outcome}
 use Rattle.exports_running.proofs.cabinet_read.Goals as goal
 
 pub returns : goal.returns
-returns c =
-    flat_outcome_lem c.flat_answer.ensures
-    (rw c.opened.ensures at c.read.ensures)
+unfolding flat_outcome
+returns c = search rules

@@ -1,42 +1,39 @@
+use borrow.Author.Rules.{rules}
 use Rattle.protocol.specs.History.{perform}
 use Rattle.flat.proofs.Boundary.{diagnosis_is_call}
 use Rattle.library.proofs.apply.Goals as goal
 
 pub returns-in-Read : goal.returns-in-Read
 unfolding perform
-returns-in-Read c =
-    rw c.in-Read.is c.cabinet_read.ensures
+returns-in-Read c = rw c.in-Read.is (search rules)
 
 pub returns-in-Write : goal.returns-in-Write
 unfolding perform
-returns-in-Write c =
-    rw c.in-Write.is (c.cabinet_write.ensures _)
+returns-in-Write c = rw c.in-Write.is (search rules)
 
 pub returns-in-Join : goal.returns-in-Join
 unfolding perform
-returns-in-Join c =
-    rw c.in-Join.is (c.cabinet_join.ensures _)
+returns-in-Join c = rw c.in-Join.is (search rules)
 
 pub returns-in-Clean : goal.returns-in-Clean
 unfolding perform
-returns-in-Clean c = rw c.in-Clean.is (c.cabinet_clean.ensures _ _)
+returns-in-Clean c = rw c.in-Clean.is (search rules)
 
 pub returns-in-Restart : goal.returns-in-Restart
 unfolding perform
-returns-in-Restart c =
-    rw c.in-Restart.is (c.cabinet_restart.ensures _)
+returns-in-Restart c = rw c.in-Restart.is (search rules)
 
 pub returns-in-Detach : goal.returns-in-Detach
 unfolding perform
-returns-in-Detach c = rw c.in-Detach.is (c.cabinet_detach.ensures _ _)
+returns-in-Detach c = rw c.in-Detach.is (search rules)
 
 pub returns-in-Attach : goal.returns-in-Attach
 unfolding perform
-returns-in-Attach c = rw c.in-Attach.is (c.cabinet_attach.ensures _ _)
+returns-in-Attach c = rw c.in-Attach.is (search rules)
 
 pub returns-in-PowerOff : goal.returns-in-PowerOff
 unfolding perform
-returns-in-PowerOff c = rw c.in-PowerOff.is (c.cabinet_power_off.ensures _ _)
+returns-in-PowerOff c = rw c.in-PowerOff.is (search rules)
 
 pub returns-in-Diagnose : goal.returns-in-Diagnose
 unfolding perform
@@ -50,5 +47,4 @@ returns-in-Diagnose c =
 
 pub returns-in-Swap : goal.returns-in-Swap
 unfolding perform
-returns-in-Swap c =
-    rw c.in-Swap.is (c.cabinet_swap.ensures _)
+returns-in-Swap c = rw c.in-Swap.is (search rules)

@@ -9,12 +9,12 @@ use Rattle.shell.specs.Dialogue.{dialogue}
 use Rattle.program.proofs.Reading.{error, ended, some_bytes}
 use Rattle.program.proofs.hear.Goals as goal
 
-pub returns-then-got-lt0 : goal.returns-then-got-lt0
-returns-then-got-lt0 c =
+pub returns-then-failed : goal.returns-then-failed
+returns-then-failed c =
     let start = c.args in
     let d = dialogue start.h start.line.now start.memory.now in
     let same : to_z w64 (of_z w64 start.got) ≡ start.got = search rules in
-    let read = error start.block.now d start.got (rw same at c.if-got-lt0.true) in
+    let read = error start.block.now d start.got (rw same at c.if-failed.true) in
     rw (read.0, read.1) record {
       dialogue = refl;
       output = (sym (add-zero _), sym (splice_nothing _ _));
@@ -28,7 +28,7 @@ returns-then-got-lt1 c =
     let d = dialogue start.h start.line.now start.memory.now in
     let same : to_z w64 (of_z w64 start.got) ≡ start.got = search rules in
     let read =
-    ended start.block.now d start.got (rw same at c.if-got-lt0.false)
+    ended start.block.now d start.got (rw same at c.if-failed.false)
     (rw same at c.if-got-lt1.true) in
     rw (read.0, read.1) record { dialogue = last.dialogue; output = last.output; room = (omega arith, omega arith) }
 
@@ -39,7 +39,7 @@ returns c =
     let d = dialogue start.h start.line.now start.memory.now in
     let same : to_z w64 (of_z w64 start.got) ≡ start.got = search rules in
     let read =
-    some_bytes start.block.now d start.got (rw same at c.if-got-lt0.false)
+    some_bytes start.block.now d start.got (rw same at c.if-failed.false)
     (rw same at c.if-got-lt1.false) in
     let many = rw same at c.count-n.ensures.value in
     rw (read.0, read.1, ← many)
