@@ -4,8 +4,8 @@ constructors in snake case, with a dash only between the names of two definition
 
 usage: python3 tools/respell.py      at the top of the repository, once, after the kit's port.py
 
-It renames what specs/ and proofs/*.antt declare, wherever it stands in crates/ (.antt, .rt and .edit files). Functions
-of src/, exported names and strings keep their names: they are in snake case as they are.
+It renames what specs/ and proofs/*.antt declare, wherever it stands in specs/, proofs/ and the clauses of src/.
+Functions of src/, exported names and strings keep their names: they are in snake case as they are.
 """
 import collections
 import glob
