@@ -1,7 +1,8 @@
 // The cabinet program: it reads a block of input, has the shell serve it, and writes the replies.
 #![tactic(auto)]
 
-ghost use Rattle.std.specs.Prelude.{◌≡◌, ◌≤◌, length};
+ghost use Rattle.std.specs.Prelude.{◌≡◌, ◌≤◌, ◌<◌, ◌^◌, length, pos, negsuc, MatchResult};
+ghost use Rattle.std.specs.Result.{ForOk};
 ghost use Rattle.buffers.specs.Buffers.{splice};
 ghost use Rattle.protocol.specs.Geometry.{most_disks, most_blocks, area_size};
 ghost use Rattle.shell.specs.Dialogue.{line_buffer, dialogue};
@@ -14,7 +15,8 @@ use protocol::geometry::{BLOCK_SIZE, MOST_BLOCKS};
 use replies::REPLY_MOST;
 use sets::DISKS;
 use shell::{LINE_BUFFER, Shell};
-use std::io::{Read, Stdin};
+use std::io;
+use std::io::Read;
 
 // The most bytes of input at a time.
 const BLOCK: usize = 4096;
@@ -33,9 +35,12 @@ struct Served {
     written: bool,
 }
 
-// What a read gave, as the system's own call tells it: the number of bytes, or less than 0 for an error.
-fn read_into(mut input: Stdin, block: &mut [u8]) -> isize {
-    match input.read(block) {
+// What a read gave, as one number: how many bytes, or -1 for an error.
+fn told(read: io::Result<usize>) -> isize
+    requires { ForOk read (λ n. n < 2 ^ 63) }
+    ensures { MatchResult read (λ n. result ≡ pos n) (λ e. result ≡ negsuc 0) }
+{
+    match read {
         Ok(count) => count as isize,
         Err(_) => -1,
     }
@@ -83,7 +88,8 @@ fn serve_once(
         out.old }
     ensures room { (result.shell.buffered ≤ line_buffer) × (result.shell.used ≡ 0) }
 {
-    let got = read_into(rt.stdin(), block);
+    let mut input = rt.stdin();
+    let got = told(input.read(block));
     let after = program::hear(got, block, h, line, memory, out);
     let used = after.used;
     answer(rt, got, after, &out[..used])
