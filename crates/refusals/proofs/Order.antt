@@ -1,4 +1,4 @@
--- The first refusal of a paragraph: how it is found from the last one on, and what is known where there is none.
+-- What is known where a paragraph gives no refusal.
 -- Assumes nothing.
 use mathlib.Core.Path.{◌≡◌, refl}
 use mathlib.Core.Bool.{Bool, true, false, cond, not, ◌&&◌, false≢true}
@@ -6,28 +6,9 @@ use mathlib.Core.List.{List, [], ◌∷◌}
 use Prim.Native.Nat.{ℕ, zero, suc, ◌<◌}
 use native.Mathlib.Omega.{arith}
 use lib.Dec.{eqb}
-use lib.ListN.{length, get_or, drop}
-use lib.Seq.{drop-cons, drop-length}
+use lib.ListN.{get_or}
 use Rattle.sets.proofs.Tests.{and_parts}
-use Rattle.refusals.specs.declared.Refusal.{Refusal}
-use Rattle.refusals.specs.Refusals.{first_of, entries}
-
--- ---- from the last one on
-
--- behind the last refusal there is none
-pub none_behind : (paragraph : List Refusal) (lines : ℕ) → length paragraph ≡ lines
-    → 0 ≡ first_of (entries (drop lines paragraph))
-unfolding first_of
-none_behind paragraph lines e = rw (← e, drop-length paragraph)
-
--- a refusal, in front of the later ones, which begin at line i
-pub one_before : (paragraph : List Refusal) (j i : ℕ) (other : Refusal) → suc j ≡ i → j < length paragraph
-    → cond (get_or paragraph j other).1 (get_or paragraph j other).0 (first_of (entries (drop i paragraph)))
-    ≡ first_of (entries (drop j paragraph))
-unfolding first_of
-one_before paragraph j i other e inside = rw (← e, drop-cons paragraph j other inside)
-
--- ---- where there is none
+use Rattle.refusals.specs.Refusals.{first_of}
 
 -- where a paragraph gives 0, its first condition does not hold, and neither do the later ones
 pub none_of : (number : ℕ) (unfit : Bool) (later : List (ℕ × Bool)) → 0 < number → first_of ((number, unfit) ∷ later)

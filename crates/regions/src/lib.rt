@@ -1,7 +1,8 @@
 // Maps of regions: "the dirty map, bit r for region r" (document 01, "What the cabinet is").
 //
 // A map's width stands here, in RegionMap and REGIONS, apart from the width of a set of disks. What the operations
-// mean, and their laws, are those of sets (crate `sets`), which name no width.
+// mean, and their laws, are those of sets (crate `sets`), which name no width; so does the code that asks for a bit.
+// Those that make a map stay beside those that make a set: each is one operator of its own integer type.
 #![tactic(auto)]
 
 ghost use Rattle.std.specs.Prelude.{◌≡◌, ◌<◌};
@@ -16,11 +17,7 @@ pub const REGIONS: usize = 8;
 pub fn has(map: RegionMap, region: usize) -> bool
     ensures { result ≡ has map region }
 {
-    if region < REGIONS {
-        (map >> region) & 1 == 1
-    } else {
-        false
-    }
+    sets::has(map, region)
 }
 
 pub fn union(a: RegionMap, b: RegionMap) -> RegionMap
@@ -49,9 +46,5 @@ pub fn cleared(map: RegionMap, region: usize) -> RegionMap
 pub fn below(map: RegionMap, count: usize) -> bool
     ensures { result ≡ below map count }
 {
-    if count < REGIONS {
-        map >> count == 0
-    } else {
-        true
-    }
+    sets::below(map, count)
 }

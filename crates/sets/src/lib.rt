@@ -1,24 +1,20 @@
 // Sets of disks as masks: bit d stands for disk d (document 01, "What the cabinet is").
 //
-// A set's width stands here, in Mask and DISKS and in the two counts that name the integer type. No definition, law or
-// proof names it.
+// A set's width stands here, in Mask and DISKS. No definition, law or proof names it.
 #![tactic(auto)]
 
 ghost use Rattle.std.specs.Prelude.{◌≡◌, cond, ◌^◌, ◌<◌, ◌≤◌};
-ghost use Rattle.sets.specs.Sets.{has, union, intersection, difference, subset};
-ghost use Rattle.sets.specs.Sets.{singleton, all, below, size, lowest};
+ghost use Rattle.sets.specs.Sets.{union, intersection, difference, subset};
+ghost use Rattle.sets.specs.Sets.{singleton, all, size, lowest};
+
+mod bits;
+
+pub use bits::{Bits, below, has};
 
 pub type Mask = u8;
 
 // As many disks as a mask has bits: the most that a cabinet may have.
 pub const DISKS: usize = 8;
-
-// A disk from DISKS up is in no set, so any number may be asked about.
-pub fn has(s: Mask, d: usize) -> bool
-    ensures { result ≡ has s d }
-{
-    if d < DISKS { (s >> d) & 1 == 1 } else { false }
-}
 
 pub fn union(a: Mask, b: Mask) -> Mask
     ensures { result ≡ union a b }
@@ -69,13 +65,6 @@ pub fn all(n: usize) -> Mask
     if n < DISKS { singleton(n) - 1 } else { !0 }
 }
 
-// Whether s names only disks below n.
-pub fn below(s: Mask, n: usize) -> bool
-    ensures { result ≡ below s n }
-{
-    if n < DISKS { s >> n == 0 } else { true }
-}
-
 // The set that a number stands for, bit d for disk d. One that a mask cannot hold stands for none,
 // so the bound must be asked.
 pub fn from_number(v: u16) -> Mask
@@ -89,21 +78,14 @@ pub fn from_number(v: u16) -> Mask
 pub fn number(s: Mask) -> u16
     ensures { result ≡ s }
 {
-    s as u16
-}
-
-// A function of its own, so that no count has to be proved to fit.
-fn wide(x: u32) -> usize
-    ensures { result ≡ x }
-{
-    x as usize
+    u16::from(s)
 }
 
 // No more than DISKS, so that sums of sizes are seen to fit.
 pub fn size(s: Mask) -> usize
     ensures { (result ≡ size s) × (result ≤ DISKS) }
 {
-    wide(u8::count_ones(s))
+    s.count_ones() as usize
 }
 
 // The empty set has no lowest member; its trailing zeros would be the width, so 0 is given instead.
@@ -113,6 +95,6 @@ pub fn lowest(s: Mask) -> usize
     if s == 0 {
         0
     } else {
-        wide(u8::trailing_zeros(s))
+        s.trailing_zeros() as usize
     }
 }

@@ -1,7 +1,8 @@
+use mathlib.Core.Path.{refl}
 use Rattle.sets.specs.Sets.{size}
 use Rattle.sets.proofs.Cardinality.{size_most}
 use Rattle.sets.proofs.size.Goals as goal
 
 pub returns : goal.returns
 unfolding size
-returns c = (c.wide.ensures, rw c.wide.ensures (size_most _ _ c.ranges.s.fits))
+returns c = (refl, size_most _ _ c.ranges.s.fits)
