@@ -1,11 +1,13 @@
 -- Document 01, "Label reading".
 use Rattle.std.specs.Prelude.{Bool, cond, not, ◌&&◌, ◌||◌, List, [], ◌∷◌, ℕ, ◌+◌, ◌/◌, ◌%◌, eqb, ltb, leb, length}
-use Rattle.std.specs.Prelude.{get_or}
+use Rattle.std.specs.Prelude.{get_or, Result, Ok, Err}
+use Rattle.refusals.specs.declared.Refusal.{Refusal}
 use Rattle.label.specs.declared.Form.{Form}
 use Rattle.label.specs.Bytes.{blank, label_length, fields_of}
-use Rattle.refusals.specs.Refusals.{first_of}
+use Rattle.refusals.specs.Refusals.{first_of, number_of}
 use Rattle.label.specs.Rules.{outside, wrong_sets}
 use Rattle.label.specs.declared.Label.{Label}
+use Rattle.label.specs.declared.Placed.{Placed}
 use Rattle.label.specs.declared.Reading.{Reading}
 
 -- a field whose bit of the map stands is 0
@@ -40,6 +42,11 @@ found d n l len = record { refusal = 0; number = d; disks = n; label = l; length
 -- "refused, it yields zeros for all of these"
 abbrev pub refused : ℕ → Reading
 refused r = record { refusal = r; number = 0; disks = 0; label = blank; length = 0 }
+
+-- what the reader's code gives, as the paper has it
+abbrev pub reading_of : Result Placed Refusal → Reading
+reading_of (Ok p) = found p.number p.disks p.label p.length
+reading_of (Err r) = refused (number_of r)
 
 -- what a map, a number, n and fields found in so many bytes yield
 unfoldable pub judged : Form → ℕ → ℕ → ℕ → ℕ → Label → Reading

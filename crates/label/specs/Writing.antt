@@ -1,9 +1,10 @@
 -- Document 01, "Label writing".
-use Rattle.std.specs.Prelude.{Bool, cond, List, [], ◌∷◌, ℕ, eqb, ltb, leb, length}
+use Rattle.std.specs.Prelude.{Bool, cond, List, [], ◌∷◌, ℕ, eqb, ltb, leb, length, Result, Ok, Err}
 use Rattle.label.specs.declared.Form.{Form}
 use Rattle.label.specs.Bytes.{encode}
 use Rattle.buffers.specs.Buffers.{splice}
-use Rattle.refusals.specs.Refusals.{first_of}
+use Rattle.refusals.specs.declared.Refusal.{Refusal}
+use Rattle.refusals.specs.Refusals.{first_of, number_of}
 use Rattle.label.specs.Rules.{outside, wrong_sets}
 use Rattle.label.specs.declared.Label.{Label}
 use Rattle.label.specs.declared.Written.{Written}
@@ -31,3 +32,8 @@ written f d n l room =
 -- "bytes beyond the label stay"; refused, "no change in the state or any buffer"
 unfoldable pub written_bytes : Form → ℕ → ℕ → Label → List ℕ → List ℕ
 written_bytes f d n l old = cond (eqb (write_refusal f d n l (length old)) 0) (splice 0 (encode f d n l) old) old
+
+-- what the writer's code gives, as the paper has it
+abbrev pub written_of : Result ℕ Refusal → Written
+written_of (Ok len) = record { refusal = 0; length = len }
+written_of (Err r) = record { refusal = number_of r; length = 0 }

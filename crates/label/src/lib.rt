@@ -4,7 +4,10 @@
 ghost use Rattle.std.specs.Prelude.{◌≡◌};
 ghost use Rattle.label.specs.Bytes.{blank};
 ghost use Rattle.label.specs.Comparing.{same_label};
+ghost use Rattle.label.specs.Reading.{reading_of};
+ghost use Rattle.label.specs.Writing.{written_of};
 
+use refusals::Refusal;
 use regions::RegionMap;
 use sets::Mask;
 
@@ -15,7 +18,7 @@ pub use rules::{field_length, label_length, outside, wrong_sets};
 // "Each disk has a label: the committed set C, the tentative set T (0 means none), and the dirty map, bit r for region
 // r. C of 0 means the disk has never been a member."
 #[repr(C)]
-#[derive(Clone, Copy)]
+#[derive(Clone, Copy, PartialEq, Eq, Default)]
 pub struct Label {
     pub committed: Mask,
     pub tentative: Mask,
@@ -25,20 +28,26 @@ pub struct Label {
 pub fn blank() -> Label
     ensures { result ≡ blank }
 {
-    Label {
-        committed: 0,
-        tentative: 0,
-        dirty: 0,
-    }
+    Label::default()
 }
 
+#[tactic(auto, unfolding(crate::specs::Comparing::same_label))]
 pub fn same(a: Label, b: Label) -> bool
     ensures { result ≡ same_label a b }
 {
-    (a.committed == b.committed) & ((a.tentative == b.tentative) & (a.dirty == b.dirty))
+    a == b
 }
 
-// What reading yields. Refused, everything but the refusal's number is 0; done, that number is.
+// A label that is read, with the disk's number and n as they stand in the bytes, and how many bytes it has.
+#[derive(Clone, Copy)]
+pub struct Placed {
+    pub number: usize,
+    pub disks: usize,
+    pub label: Label,
+    pub length: usize,
+}
+
+// What reading yields, as C lays it out. Refused, everything but the refusal's number is 0; done, that number is.
 #[repr(C)]
 #[derive(Clone, Copy)]
 pub struct Reading {
@@ -49,12 +58,49 @@ pub struct Reading {
     pub length: usize,
 }
 
-// What writing yields, beside the bytes. Refused, the length is 0; done, the refusal's number is.
+impl From<Result<Placed, Refusal>> for Reading {
+    ghost from_gives = { λ read reading. reading ≡ reading_of read };
+
+    fn from(read: Result<Placed, Refusal>) -> Reading {
+        match read {
+            Ok(placed) => Reading {
+                refusal: 0,
+                number: placed.number,
+                disks: placed.disks,
+                label: placed.label,
+                length: placed.length,
+            },
+            Err(refusal) => Reading {
+                refusal: refusal.number(),
+                number: 0,
+                disks: 0,
+                label: blank(),
+                length: 0,
+            },
+        }
+    }
+}
+
+// What writing yields, beside the bytes, as C lays it out. Refused, the length is 0; done, the refusal's number is.
 #[repr(C)]
 #[derive(Clone, Copy)]
 pub struct Written {
     pub refusal: u8,
     pub length: usize,
+}
+
+impl From<Result<usize, Refusal>> for Written {
+    ghost from_gives = { λ length written. written ≡ written_of length };
+
+    fn from(length: Result<usize, Refusal>) -> Written {
+        match length {
+            Ok(length) => Written { refusal: 0, length },
+            Err(refusal) => Written {
+                refusal: refusal.number(),
+                length: 0,
+            },
+        }
+    }
 }
 
 // How the labels of one kind of cabinet are written: how many bytes a set has, what stands in the map from bit 3 up,

@@ -4,11 +4,10 @@
 ghost use Rattle.std.specs.Prelude.{◌≡◌, ◌≤◌, ◌<◌, get_or, drop};
 ghost use Rattle.label.specs.Form.{Coded};
 ghost use Rattle.label.specs.Bytes.{from_little_endian, field_at, fields_of};
-ghost use Rattle.label.specs.Reading.{empty_field, read_refusal, judged, reading};
+ghost use Rattle.label.specs.Reading.{empty_field, judged, reading, reading_of};
 
-use label::{Form, Label, Reading, blank, field_length, label_length, outside, wrong_sets};
-use refusals::numbers::{LABEL_CUT_SHORT, LABEL_EMPTY_FIELD, LABEL_MAP, LABEL_PLACE, LABEL_SET};
-use refusals::{PASSED, Refusal, first_of};
+use label::{Form, Label, Placed, field_length, label_length, outside, wrong_sets};
+use refusals::Refusal;
 use sets::DISKS;
 
 // The byte at a place, 0 past the end: every part of a label can then be fetched before the
@@ -16,7 +15,7 @@ use sets::DISKS;
 fn byte_at(bytes: &[u8], at: usize) -> u8
     ensures { result ≡ get_or bytes.now at 0 }
 {
-    if at < bytes.len() { bytes[at] } else { 0 }
+    bytes.get(at).copied().unwrap_or(0)
 }
 
 // The number in one byte or two from a place on, low byte first.
@@ -67,55 +66,37 @@ fn empty_field(map: u8, label: Label) -> bool
         | ((map / 4 % 2 == 1) & (label.dirty == 0))
 }
 
-// The first refusal that applies to `length` bytes with these parts, 0 if none does.
-fn read_refusal(form: Form, length: usize, map: u8, number: usize, disks: usize, label: Label) -> u8
+// The label of these parts, found in `length` bytes.
+#[tactic(auto, unfolding(refusals::specs::Refusals::first_of, label::specs::Reading::read_refusals, label::specs::Reading::read_refusal, label::specs::Reading::judged))]
+fn judge(
+    form: Form,
+    length: usize,
+    map: u8,
+    number: usize,
+    disks: usize,
+    label: Label,
+) -> Result<Placed, Refusal>
     requires { form.width ≤ 2 }
-    ensures { result ≡ read_refusal form length map number disks label }
+    ensures { reading_of result ≡ judged form length map number disks label }
 {
-    let count = outside(form, disks);
     let needed = label_length(form, map);
-    let empty = empty_field(map, label);
-    let sets = wrong_sets(label, number, disks);
-    first_of([
-        Refusal(LABEL_CUT_SHORT, length < 2),
-        Refusal(LABEL_MAP, map / 8 != form.fixed),
-        Refusal(LABEL_PLACE, count | (disks <= number)),
-        Refusal(LABEL_CUT_SHORT, length < needed),
-        Refusal(LABEL_EMPTY_FIELD, empty),
-        Refusal(LABEL_SET, sets),
-        PASSED,
-        PASSED,
-    ])
+    Refusal::LabelCutShort.when(length < 2)?;
+    Refusal::LabelMap.when(map / 8 != form.fixed)?;
+    Refusal::LabelPlace.when(outside(form, disks) | (disks <= number))?;
+    Refusal::LabelCutShort.when(length < needed)?;
+    Refusal::LabelEmptyField.when(empty_field(map, label))?;
+    Refusal::LabelSet.when(wrong_sets(label, number, disks))?;
+    Ok(Placed {
+        number,
+        disks,
+        label,
+        length: needed,
+    })
 }
 
-// What these parts yield: the label, or nothing but the refusal's number.
-fn judge(form: Form, length: usize, map: u8, number: usize, disks: usize, label: Label) -> Reading
-    requires { form.width ≤ 2 }
-    ensures { result ≡ judged form length map number disks label }
-{
-    let refusal = read_refusal(form, length, map, number, disks, label);
-    if refusal == 0 {
-        Reading {
-            refusal: 0,
-            number: number,
-            disks: disks,
-            label: label,
-            length: label_length(form, map),
-        }
-    } else {
-        Reading {
-            refusal: refusal,
-            number: 0,
-            disks: 0,
-            label: blank(),
-            length: 0,
-        }
-    }
-}
-
-pub fn read_as(form: Form, bytes: &[u8]) -> Reading
+pub fn read_as(form: Form, bytes: &[u8]) -> Result<Placed, Refusal>
     requires { Coded DISKS form }
-    ensures { result ≡ reading form bytes.now }
+    ensures { reading_of result ≡ reading form bytes.now }
 {
     let map = byte_at(bytes, 0);
     let place = byte_at(bytes, 1);

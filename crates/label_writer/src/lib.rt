@@ -5,18 +5,18 @@ ghost use Rattle.std.specs.Prelude.{◌≡◌, ◌+◌, ◌*◌, ◌≤◌, ◌<
 ghost use Rattle.buffers.specs.Buffers.{Stored};
 ghost use Rattle.label.specs.Form.{Coded};
 ghost use Rattle.label.specs.Bytes.{present, field_bytes, map_byte, encode};
-ghost use Rattle.label.specs.Writing.{write_refusal, written, written_bytes};
+ghost use Rattle.refusals.specs.Refusals.{refusal_number};
+ghost use Rattle.label.specs.Writing.{write_refusal, written, written_of, written_bytes};
 
-use label::{Form, Label, Written, label_length, outside, wrong_sets};
-use refusals::numbers::{DISK_COUNT, LABEL_SET, NO_ROOM, NO_SUCH_DISK};
-use refusals::{PASSED, Refusal, first_of};
+use label::{Form, Label, label_length, outside, wrong_sets};
+use refusals::Refusal;
 use sets::DISKS;
 
 // The bit of a field by its value: a field of 0 has none.
 fn present(value: u16) -> u8
     ensures { (result ≡ present value) × (result ≤ 1) }
 {
-    if value == 0 { 0 } else { 1 }
+    u8::from(value != 0)
 }
 
 fn map_byte(form: Form, label: Label) -> u8
@@ -29,24 +29,23 @@ fn map_byte(form: Form, label: Label) -> u8
     form.fixed * 8 + (committed + 2 * tentative + 4 * dirty)
 }
 
-// The first refusal that applies, 0 if none does.
-fn write_refusal(form: Form, room: usize, number: usize, disks: usize, label: Label) -> u8
+// What the label of these parts is refused for, given so much room.
+#[tactic(auto, unfolding(refusals::specs::Refusals::first_of, label::specs::Writing::write_refusals, label::specs::Writing::write_refusal))]
+fn write_refusal(
+    form: Form,
+    room: usize,
+    number: usize,
+    disks: usize,
+    label: Label,
+) -> Result<(), Refusal>
     requires { (form.width ≤ 2) × (form.fixed < 32) }
-    ensures { result ≡ write_refusal form number disks label room }
+    ensures { refusal_number result ≡ write_refusal form number disks label room }
 {
-    let count = outside(form, disks);
-    let sets = wrong_sets(label, number, disks);
     let needed = label_length(form, map_byte(form, label));
-    first_of([
-        Refusal(DISK_COUNT, count),
-        Refusal(NO_SUCH_DISK, disks <= number),
-        Refusal(LABEL_SET, sets),
-        Refusal(NO_ROOM, room < needed),
-        PASSED,
-        PASSED,
-        PASSED,
-        PASSED,
-    ])
+    Refusal::DiskCount.when(outside(form, disks))?;
+    Refusal::NoSuchDisk.when(disks <= number)?;
+    Refusal::LabelSet.when(wrong_sets(label, number, disks))?;
+    Refusal::NoRoom.when(room < needed)
 }
 
 // Stores a field of one byte or two at a place if it is present, low byte first, and gives the place behind it.
@@ -78,19 +77,19 @@ fn put(form: Form, out: &mut [u8], number: usize, disks: usize, label: Label) ->
     put_field(out, third, 1, label.dirty as u16)
 }
 
-pub fn write_as(form: Form, out: &mut [u8], number: usize, disks: usize, label: Label) -> Written
+// Gives the label's length.
+#[tactic(auto, using(refusals::proofs::Numbers::refuses), unfolding(label::specs::Writing::written, label::specs::Writing::written_bytes))]
+pub fn write_as(
+    form: Form,
+    out: &mut [u8],
+    number: usize,
+    disks: usize,
+    label: Label,
+) -> Result<usize, Refusal>
     requires { Coded DISKS form }
-    ensures answer { result ≡ written form number disks label (length out.old) }
+    ensures answer { written_of result ≡ written form number disks label (length out.old) }
     ensures bytes { out.new ≡ written_bytes form number disks label out.old }
 {
-    let refusal = write_refusal(form, out.len(), number, disks, label);
-    let length = if refusal == 0 {
-        put(form, out, number, disks, label)
-    } else {
-        0
-    };
-    Written {
-        refusal: refusal,
-        length: length,
-    }
+    write_refusal(form, out.len(), number, disks, label)?;
+    Ok(put(form, out, number, disks, label))
 }

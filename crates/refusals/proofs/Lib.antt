@@ -1,2 +1,3 @@
--- The laws of paragraphs of refusals.
+-- The laws of paragraphs of refusals, and of their numbers.
 pub mod Order
+pub mod Numbers
