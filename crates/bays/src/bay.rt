@@ -1,28 +1,28 @@
 // A label that is read, held against the bay that it stands in.
-ghost use Rattle.std.specs.Prelude.{◌≡◌};
-ghost use Rattle.refusals.specs.Refusals.{first_of};
+ghost use Rattle.std.specs.Prelude.{◌≡◌, IfOk};
+ghost use Rattle.refusals.specs.Refusals.{first_of, refusal_number};
+ghost use Rattle.label.specs.Reading.{reading_of};
 ghost use Rattle.protocol.specs.Bays.{bay_refusals};
 
 use crate::counts::region_count;
-use label::Reading;
-use refusals::numbers::{LABEL_PLACE, NO_SUCH_REGION};
-use refusals::{PASSED, Refusal, first_of};
+use label::{Label, Placed};
+use refusals::Refusal;
 
-// "the label's own refusal; 18, its number or n is not this slot's; 22, a dirty bit names no region"
-pub fn bay_refusal(d: usize, disks: usize, blocks: usize, reading: Reading) -> u8
-    ensures { result ≡ first_of (bay_refusals d disks blocks reading) }
+// "the label's own refusal; 18, its number or n is not this slot's; 22, a dirty bit names no region"; of none of these,
+// the label.
+#[tactic(auto, using(refusals::proofs::Numbers::refuses), unfolding(refusals::specs::Refusals::first_of, protocol::specs::Bays::bay_refusals))]
+pub fn label_of_bay(
+    d: usize,
+    disks: usize,
+    blocks: usize,
+    read: Result<Placed, Refusal>,
+) -> Result<Label, Refusal>
+    ensures refused { refusal_number result ≡ first_of (bay_refusals d disks blocks (reading_of read)) }
+    ensures label { IfOk result (λ label. label ≡ (reading_of read).label) }
 {
-    let own = reading.refusal;
-    let place = (reading.number == d) & (reading.disks == disks);
-    let known = regions::below(reading.label.dirty, region_count(blocks));
-    first_of([
-        Refusal(own, own != 0),
-        Refusal(LABEL_PLACE, !place),
-        Refusal(NO_SUCH_REGION, !known),
-        PASSED,
-        PASSED,
-        PASSED,
-        PASSED,
-        PASSED,
-    ])
+    let placed = read?;
+    Refusal::LabelPlace.when((placed.number != d) | (placed.disks != disks))?;
+    let known = regions::below(placed.label.dirty, region_count(blocks));
+    Refusal::NoSuchRegion.when(!known)?;
+    Ok(placed.label)
 }

@@ -1,16 +1,27 @@
 // Answers of calls that made no store.
 ghost use Rattle.std.specs.Prelude.{◌≡◌};
+ghost use Rattle.refusals.specs.Refusals.{number_of};
 
 use protocol::{Answer, State};
+use refusals::Refusal;
 
-// "A refusal gives its number, a store count of 0, and no change in the state". With 0 for the refusal, it is what a
-// done call without stores gives.
-pub fn without_stores(s: State, refusal: u8) -> Answer
-    ensures { result ≡ record { refusal = refusal; stores = 0; state = s } }
+// What a done call without stores gives.
+pub fn done(state: State) -> Answer
+    ensures { result ≡ record { refusal = 0; stores = 0; state = state } }
 {
     Answer {
-        refusal: refusal,
+        refusal: 0,
         stores: 0,
-        state: s,
+        state,
+    }
+}
+
+// "A refusal gives its number, a store count of 0, and no change in the state"
+pub fn refused(state: State, refusal: Refusal) -> Answer
+    ensures { result ≡ record { refusal = number_of refusal; stores = 0; state = state } }
+{
+    Answer {
+        refusal: refusal.number(),
+        ..done(state)
     }
 }

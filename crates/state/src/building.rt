@@ -1,4 +1,4 @@
-// Where states are built: `state_of` alone names the fields, and the others say what is kept of a state.
+// Where states are built: `state_of` alone names all fields, and the others say what is changed in a state.
 ghost use Rattle.std.specs.Prelude.{◌≡◌, replicate};
 ghost use Rattle.label.specs.Bytes.{blank};
 ghost use Rattle.protocol.specs.Geometry.{most_disks};
@@ -12,44 +12,44 @@ pub fn state_of(disks: u8, blocks: u8, labels: [Label; DISKS], online: Mask, pow
     ensures { result ≡ state_of disks blocks labels online power }
 {
     State {
-        disks: disks,
-        blocks: blocks,
-        labels: labels,
-        online: online,
-        power: power,
+        disks,
+        blocks,
+        labels,
+        online,
+        power,
     }
 }
 
 pub fn with_labels(s: State, labels: [Label; DISKS], power: Power) -> State
     ensures { result ≡ with_labels s labels power }
 {
-    state_of(s.disks, s.blocks, labels, s.online, power)
+    State { labels, power, ..s }
 }
 
 // "Lose, return and cut change only R or the power condition."
 pub fn with_online(s: State, online: Mask) -> State
     ensures { result ≡ with_online s online }
 {
-    let labels = s.labels;
-    let power = s.power;
-    state_of(s.disks, s.blocks, labels, online, power)
+    State { online, ..s }
 }
 
 pub fn powered_off(s: State) -> State
     ensures { result ≡ powered_off s }
 {
-    let labels = s.labels;
-    with_labels(s, labels, Power::Stopped)
+    State {
+        power: Power::Stopped,
+        ..s
+    }
 }
 
 pub fn blank_labels() -> [Label; DISKS]
     ensures { result ≡ replicate most_disks blank }
 {
-    let label = blank();
-    [label; DISKS]
+    [blank(); DISKS]
 }
 
 // "Fresh and assembling are given no state; refused, they yield one that is all zero and stopped"
+#[tactic(auto, unfolding(protocol::specs::States::zero_state))]
 pub fn zero() -> State
     ensures { result ≡ zero_state }
 {

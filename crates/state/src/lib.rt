@@ -5,6 +5,6 @@ mod answer;
 mod building;
 mod power;
 
-pub use answer::without_stores;
+pub use answer::{done, refused};
 pub use building::{blank_labels, powered_off, state_of, with_labels, with_online, zero};
 pub use power::{current, is_running, live, source};

@@ -18,21 +18,18 @@ pub fn current(power: Power) -> Mask
 pub fn is_running(power: Power) -> bool
     ensures { result ≡ is_running power }
 {
-    match power {
-        Power::Stopped => false,
-        Power::Running(_) => true,
-    }
+    matches!(power, Power::Running(_))
 }
 
 // "L means the members of G that are in reach."
 pub fn live(s: State) -> Mask
     ensures { result ≡ live s }
 {
-    let power = s.power;
-    sets::intersection(current(power), s.online)
+    sets::intersection(current(s.power), s.online)
 }
 
 // The member of a set that the others are copied from, and that reads go to.
+#[tactic(auto, unfolding(protocol::specs::States::source))]
 pub fn source(set: Mask) -> usize
     ensures { result ≡ source set }
 {
