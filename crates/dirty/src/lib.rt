@@ -3,47 +3,41 @@
 // eight labels, so that compiled code knows the disk in each iteration.
 #![tactic(auto)]
 
-ghost use Rattle.std.specs.Prelude.{◌≡◌, cond, ◌≤◌};
+ghost use Rattle.std.specs.Prelude.{◌≡◌, ◌≤◌};
 ghost use Rattle.dirty.specs.DirtyBits.{dirty_disks, dirty_regions};
 
 use label::Label;
 use regions::RegionMap;
 use sets::{DISKS, Mask};
 
-// The map, if it is wanted.
-fn map_if(wanted: bool, map: RegionMap) -> RegionMap
-    ensures { result ≡ cond wanted map 0 }
-{
-    if wanted { map } else { 0 }
-}
-
 // The disks below n on which region r is dirty.
+#[tactic(auto, unfolding(crate::specs::DirtyBits::dirty_disks))]
 pub fn dirty_disks(labels: [Label; DISKS], n: usize, r: usize) -> Mask
     requires { n ≤ DISKS }
     ensures { result ≡ dirty_disks n labels r }
 {
     let mut set = 0;
-    let mut d = 0;
-    while d < DISKS {
-        let l = labels[d];
-        let stands = (d < n) & regions::has(l.dirty, r);
+    #[tactic(auto, unfolding(protocol::specs::Loops::disks_where, protocol::specs::Loops::union_below))]
+    for d in 0..DISKS {
+        let stands = (d < n) & regions::has(labels[d].dirty, r);
         set = sets::union(set, sets::singleton_if(stands, d));
-        d += 1;
     }
     set
 }
 
 // The regions that are dirty on any disk of the set.
+#[tactic(auto, unfolding(protocol::specs::Loops::union_below, crate::specs::DirtyBits::dirty_regions))]
 pub fn dirty_regions(labels: [Label; DISKS], set: Mask) -> RegionMap
     ensures { result ≡ dirty_regions labels set }
 {
     let mut map = 0;
-    let mut d = 0;
-    while d < DISKS {
-        let l = labels[d];
-        let member = sets::has(set, d);
-        map = regions::union(map, map_if(member, l.dirty));
-        d += 1;
+    for d in 0..DISKS {
+        let dirty = if sets::has(set, d) {
+            labels[d].dirty
+        } else {
+            0
+        };
+        map = regions::union(map, dirty);
     }
     map
 }

@@ -1,15 +1,9 @@
 use mathlib.Core.Path.{◌≡◌}
 use mathlib.Core.Bool.{cond}
-use Prim.Native.Nat.{◌-◌, ◌≤◌}
 use Rattle.sets.specs.Sets.{has}
-use Rattle.protocol.specs.Geometry.{most_disks}
 use Rattle.protocol.specs.Loops.{union_below}
 use Rattle.protocol.specs.States.{label_at}
 use Rattle.dirty.proofs.dirty_regions.Given as goal
 
 abbrev pub invariant-loop-d : goal.invariant-loop-d
-invariant-loop-d l =
-    (l.d ≤ most_disks) × (l.map ≡ union_below l.d (λ e. cond (has l.set e) (label_at l.labels e).dirty 0))
-
-abbrev pub decreases-loop-d : goal.decreases-loop-d
-decreases-loop-d l = most_disks - l.d
+invariant-loop-d l = l.map ≡ union_below l.d (λ e. cond (has l.set e) (label_at l.labels e).dirty 0)
