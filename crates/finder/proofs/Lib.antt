@@ -1,4 +1,4 @@
 pub mod Masks
 pub mod Walk
-pub mod SetLists
+pub mod Shortlists
 pub mod OnePass

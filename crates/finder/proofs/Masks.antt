@@ -1,12 +1,12 @@
 -- What a set's masks say of it: whether it is a candidate, which members disagree, whether one proposes it. Assumes
 -- nothing.
 use mathlib.Core.Path.{◌≡◌, sym, ◌∙◌}
-use mathlib.Core.Bool.{true, not, ◌&&◌, and-false}
+use mathlib.Core.Bool.{true, not, cond, ◌&&◌, and-false}
 use mathlib.Core.List.{List}
 use Prim.Native.Nat.{ℕ, ◌^◌, ◌≤◌, ◌<◌}
 use native.Mathlib.Omega.{arith}
 use lib.Dec.{eqb, ltb}
-use borrow.Author.Tests.{eqb-true, eq-eqb, ltb-true, lt-ltb}
+use borrow.Author.Tests.{eqb-true, eqb-false, eq-eqb, ltb-true, ltb-false, lt-ltb}
 use Rattle.sets.specs.Sets.{has, intersection, difference, subset, lowest}
 use Rattle.sets.proofs.Tests.{Test, passes, fails, test, and_parts, same_test}
 use Rattle.sets.proofs.Membership.{same_members}
@@ -19,7 +19,8 @@ use Rattle.protocol.specs.Loops.{some}
 use Rattle.protocol.specs.States.{label_at}
 use Rattle.protocol.specs.Naming.{Stage, Candidate, backs, proposes, candidate}
 use Rattle.protocol.specs.Finder.{tried}
-use Rattle.protocol.specs.Diagnosis.{dissenters}
+use Rattle.protocol.specs.declared.Reason.TheVariants.{Empty, OutOfReach, Disagrees, NoneProposes, IsCandidate}
+use Rattle.protocol.specs.Diagnosis.{dissenters, reason_for}
 use Rattle.protocol.proofs.Loops.{has-disks_where, every_of}
 use Rattle.protocol.proofs.Naming.{backs_if, if_backs, candidate_if, candidate_below, if_candidate}
 use Rattle.protocol.proofs.Finder.{is_tried, tried-proposes}
@@ -95,7 +96,7 @@ module _ (stage : Stage) (n online : ℕ) (labels : List Label) (fit : n ≤ mos
     inside : (d : ℕ) → has x d ≡ true → has online d ≡ true
     inside = none_fails x (difference x online) (has online) (has-difference x online) reached
 
-    pub dissenters_by_masks : difference x (backers stage labels x) ≡ dissenters stage n labels x
+    dissenters_by_masks : difference x (backers stage labels x) ≡ dissenters stage n labels x
     unfolding dissenters
     dissenters_by_masks =
         same_members _ _ (λ d. has-difference x _ d ∙ go d (test (has x d)) ∙ sym (has-disks_where n _ d))
@@ -108,7 +109,7 @@ module _ (stage : Stage) (n online : ℕ) (labels : List Label) (fit : n ≤ mos
             rw (m, has-backers stage labels x d, lt-ltb d n l, lt-ltb d most_disks (omega arith))
 
     -- .. and where none does, one that holds it proposes it
-    pub proposed_by_masks : 0 < x → difference x (backers stage labels x) ≡ 0
+    proposed_by_masks : 0 < x → difference x (backers stage labels x) ≡ 0
         → ltb 0 held ≡ some n x (λ d. proposes stage (label_at labels d) x)
     unfolding candidate
     proposed_by_masks filled none =
@@ -118,3 +119,42 @@ module _ (stage : Stage) (n online : ℕ) (labels : List Label) (fit : n ≤ mos
         let each = every_of n x (λ d. backs stage (label_at labels d) x)
         (λ d l m. (and_parts (ltb d most_disks) _ (sym (has-backers stage labels x d) ∙ backing d m)).1) in
         rw (lt-ltb 0 x filled, (subset_members x online).1 inside, each, in-backed) at candidate_by_masks
+
+-- the code's tests, in their order
+module _ (stage : Stage) (n online : ℕ) (labels : List Label) (fit : n ≤ most_disks) (known : online < 2 ^ n)
+    (x : ℕ) where
+  -- the members that do not back it
+  abbrev disagree : ℕ
+  disagree = difference x (backers stage labels x)
+
+  pub reason_by_masks : reason_for stage n online labels x
+      ≡ cond (eqb x 0) Empty
+      (cond (ltb 0 (difference x online)) (OutOfReach (lowest (difference x online)))
+      (cond (ltb 0 disagree) (Disagrees (lowest disagree))
+      (cond (ltb 0 (intersection x (holders stage labels x))) IsCandidate NoneProposes)))
+  unfolding reason_for
+  reason_by_masks = go (test (eqb x 0)) (test (ltb 0 (difference x online))) (test (ltb 0 disagree))
+    where
+      go : Test (eqb x 0) → Test (ltb 0 (difference x online)) → Test (ltb 0 disagree)
+          → reason_for stage n online labels x
+          ≡ cond (eqb x 0) Empty
+          (cond (ltb 0 (difference x online)) (OutOfReach (lowest (difference x online)))
+          (cond (ltb 0 disagree) (Disagrees (lowest disagree))
+          (cond (ltb 0 (intersection x (holders stage labels x))) IsCandidate NoneProposes)))
+      go (passes e) _ _ = rw e
+      go (fails e) (passes o) _ = rw (e, o)
+      go (fails e) (fails o) d = rw (e, o, ← dissenters_by_masks stage n online labels fit known x reached) (last d)
+        where
+          reached : difference x online ≡ 0
+          reached = omega (arith, ltb-false 0 (difference x online) o)
+
+          last : Test (ltb 0 disagree)
+              → cond (ltb 0 disagree) (Disagrees (lowest disagree))
+              (cond (some n x (λ d. proposes stage (label_at labels d) x)) IsCandidate NoneProposes)
+              ≡ cond (ltb 0 disagree) (Disagrees (lowest disagree))
+              (cond (ltb 0 (intersection x (holders stage labels x))) IsCandidate NoneProposes)
+          last (passes d) = rw d
+          last (fails d) =
+              let filled : 0 < x = omega (arith, eqb-false x 0 e) in
+              let none : disagree ≡ 0 = omega (arith, ltb-false 0 disagree d) in
+              rw (d, proposed_by_masks stage n online labels fit known x reached filled none)

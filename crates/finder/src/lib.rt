@@ -2,18 +2,31 @@
 // document 02, 2.4), and why a set is no candidate of a stage (document 02, 2.2).
 #![tactic(auto)]
 
+ghost use Rattle.std.specs.Prelude.{◌^◌, ◌≤◌, ◌<◌};
+ghost use Rattle.protocol.specs.Geometry.{most_disks};
+
+use label::Label;
+use sets::{DISKS, Mask};
+
 mod candidates;
 mod lists;
 mod reasons;
 mod search;
+mod set_list;
 mod stages;
 
-pub use reasons::reason_for;
-pub use search::find;
-
-#[derive(Clone, Copy)]
+#[derive(Clone, Copy, PartialEq, Eq)]
 pub enum Stage {
     First,
     Second,
     Third,
+}
+
+// What a restart looks at: n, R, and the labels of all eight disks. A sound state is within both bounds.
+#[derive(Clone, Copy)]
+pub struct View {
+    pub disks: usize,
+    pub online: Mask,
+    pub labels: [Label; DISKS],
+    ghost within: { (disks ≤ most_disks) × (online < 2 ^ disks) },
 }

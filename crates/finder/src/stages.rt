@@ -8,24 +8,28 @@ use crate::Stage;
 use label::Label;
 use sets::Mask;
 
-// "Stage 1: every member has T = X. Stage 2: every member has T = X or C = X .. Stage 3: every member has C = X."
-pub(crate) fn backs(stage: Stage, l: Label, x: Mask) -> bool
-    ensures { result ≡ backs (stage_of stage) l x }
-{
-    match stage {
-        Stage::First => l.tentative == x,
-        Stage::Second => (l.tentative == x) | (l.committed == x),
-        Stage::Third => l.committed == x,
+impl Stage {
+    // "Stage 1: every member has T = X. Stage 2: every member has T = X or C = X .. Stage 3: every member has C = X."
+    #[tactic(auto, unfolding(protocol::specs::Naming::backs))]
+    pub(crate) fn backs(self, l: Label, x: Mask) -> bool
+        ensures { result ≡ backs (stage_of self) l x }
+    {
+        match self {
+            Stage::First => l.tentative == x,
+            Stage::Second => (l.tentative == x) | (l.committed == x),
+            Stage::Third => l.committed == x,
+        }
     }
-}
 
-// The set of a label that the stage may test: in stage 2 the T, which "some member" must have.
-pub(crate) fn tried(stage: Stage, l: Label) -> Mask
-    ensures { result ≡ tried (stage_of stage) l }
-{
-    match stage {
-        Stage::First => l.tentative,
-        Stage::Second => l.tentative,
-        Stage::Third => l.committed,
+    // The set of a label that the stage may test: in stage 2 the T, which "some member" must have.
+    #[tactic(auto, unfolding(protocol::specs::Finder::tried))]
+    pub(crate) fn tried(self, l: Label) -> Mask
+        ensures { result ≡ tried (stage_of self) l }
+    {
+        match self {
+            Stage::First => l.tentative,
+            Stage::Second => l.tentative,
+            Stage::Third => l.committed,
+        }
     }
 }

@@ -1,9 +1,10 @@
 -- What the code's answers are in document 01's definition.
+use Rattle.std.specs.Prelude.{ℕ, Result, Ok, Err}
 use Rattle.protocol.specs.Naming as paper
-use Rattle.naming.specs.declared.Naming.{Naming}
-use Rattle.naming.specs.declared.Naming.TheVariants.{Nothing, One, Several}
+use Rattle.naming.specs.declared.Unnamed.{Unnamed}
+use Rattle.naming.specs.declared.Unnamed.TheVariants.{Nothing, Several}
 
-abbrev pub found_of : Naming → paper.Found
-found_of Nothing = paper.none
-found_of (One x) = paper.one x
-found_of Several = paper.several
+abbrev pub found_of : Result ℕ Unnamed → paper.Found
+found_of (Ok x) = paper.one x
+found_of (Err Nothing) = paper.none
+found_of (Err Several) = paper.several

@@ -7,11 +7,12 @@ mod reading;
 
 pub use reading::{refusal, the_set};
 
-// `found_of` of specs/Meaning.antt says what each case is in the paper's definition, and that definition's
-// `found_number` and `the_set` which number and set it gives.
-#[derive(Clone, Copy)]
-pub enum Naming {
+// The set that a restart names, or why it names none. `found_of` of specs/Meaning.antt says what each case is in the
+// paper's definition, and that definition's `found_number` and `the_set` which number and set it gives.
+pub type Naming = Result<Mask, Unnamed>;
+
+#[derive(Clone, Copy, PartialEq, Eq)]
+pub enum Unnamed {
     Nothing,
-    One(Mask),
     Several,
 }

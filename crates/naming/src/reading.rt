@@ -3,7 +3,7 @@ ghost use Rattle.std.specs.Prelude.{◌≡◌};
 ghost use Rattle.protocol.specs.Naming.{found_number, the_set};
 ghost use Rattle.naming.specs.Meaning.{found_of};
 
-use crate::Naming;
+use crate::{Naming, Unnamed};
 use refusals::numbers::{NO_SET, SEVERAL_SETS};
 use sets::Mask;
 
@@ -12,9 +12,9 @@ pub fn refusal(found: Naming) -> u8
     ensures { result ≡ found_number (found_of found) }
 {
     match found {
-        Naming::Nothing => NO_SET,
-        Naming::One(_) => 0,
-        Naming::Several => SEVERAL_SETS,
+        Ok(_) => 0,
+        Err(Unnamed::Nothing) => NO_SET,
+        Err(Unnamed::Several) => SEVERAL_SETS,
     }
 }
 
@@ -22,9 +22,5 @@ pub fn refusal(found: Naming) -> u8
 pub fn the_set(found: Naming) -> Mask
     ensures { result ≡ the_set (found_of found) }
 {
-    match found {
-        Naming::Nothing => 0,
-        Naming::One(x) => x,
-        Naming::Several => 0,
-    }
+    found.unwrap_or(0)
 }

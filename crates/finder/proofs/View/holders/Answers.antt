@@ -1,7 +1,7 @@
 use Rattle.protocol.specs.Naming.{backs}
 use Rattle.protocol.specs.Finder.{tried}
 use Rattle.finder.specs.Masks.{backers, holders}
-use Rattle.finder.proofs.candidates.holders.Goals as goal
+use Rattle.finder.proofs.View.holders.Goals as goal
 
 pub returns-in-First : goal.returns-in-First
 unfolding backers holders backs tried
