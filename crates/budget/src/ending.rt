@@ -5,13 +5,13 @@ ghost use Rattle.budget.specs.Answers.{answered};
 
 use crate::Run;
 use protocol::{Answer, Power, State};
-use refusals::numbers::POWER_LOST;
+use refusals::Refusal;
 use sets::Mask;
 
 fn refusal_after(cut: bool) -> u8
     ensures { result ≡ cond cut 15 0 }
 {
-    if cut { POWER_LOST } else { 0 }
+    if cut { Refusal::PowerLost.number() } else { 0 }
 }
 
 fn power_after(cut: bool, current: Mask) -> Power
