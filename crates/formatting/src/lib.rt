@@ -13,7 +13,7 @@ use buffers::clear;
 use label::Label;
 use protocol::{Answer, Power, State};
 use sets::DISKS;
-use state::{blank_labels, state_of, without_stores, zero};
+use state::{blank_labels, done, refused, state_of, zero};
 
 mod checks;
 
@@ -28,11 +28,7 @@ fn formatted_labels(disks: usize) -> [Label; DISKS]
         dirty: 0,
     };
     let mut labels = blank_labels();
-    let mut d = 0;
-    while d < disks {
-        labels[d] = fresh;
-        d += 1;
-    }
+    labels[..disks].fill(fresh);
     labels
 }
 
@@ -52,15 +48,19 @@ fn formatted(disks: usize, blocks: usize) -> State
 }
 
 // Given no output, it leaves any.
+#[tactic(auto, using(refusals::proofs::Numbers::refuses), unfolding(
+    protocol::specs::Calls::format_outcome,
+    protocol::specs::Outcomes::refused_or
+))]
 pub fn format(disks: usize, blocks: usize, area: &mut [u8]) -> Answer
     ensures { (output : List ℕ) → yields result area.new output
         ≡ format_outcome area.old output disks blocks }
 {
-    let refusal = format_refusal(disks, blocks, area.len());
-    if refusal == 0 {
-        clear(area);
-        without_stores(formatted(disks, blocks), 0)
-    } else {
-        without_stores(zero(), refusal)
+    match format_refusal(disks, blocks, area) {
+        Ok(()) => {
+            clear(area);
+            done(formatted(disks, blocks))
+        }
+        Err(refusal) => refused(zero(), refusal),
     }
 }

@@ -1,13 +1,11 @@
 -- What a lose or a return that is not refused knows of its number, and in which order a return is refused. Assumes
 -- nothing.
-use mathlib.Core.Path.{◌≡◌, sym, ◌∙◌}
-use mathlib.Core.Logic.{◌≢◌}
-use mathlib.Core.Bool.{true, false, not, cond}
+use mathlib.Core.Path.{◌≡◌}
+use mathlib.Core.Bool.{not, cond}
 use mathlib.Core.List.{List, []}
 use Prim.Native.Nat.{ℕ, ◌<◌}
 use native.Mathlib.Omega.{arith}
 use lib.Dec.{eqb, lit<}
-use borrow.Author.Tests.{ne_eqb}
 use Rattle.sets.specs.Sets.{has}
 use Rattle.label.specs.Comparing.{same_label}
 use Rattle.label.specs.Reading.{reading}
@@ -36,24 +34,11 @@ attached_known s d bytes e = below_most (attach_passed s d bytes e)
 -- ---- first 1 and 8, then, of a disk out of reach, what it shows
 
 module _ (s : State) (d : ℕ) (bytes : List ℕ) where
-  in_order : first_of (attach_refusals s d bytes)
+  pub in_order : first_of (attach_refusals s d bytes)
       ≡ cond (eqb (first_of (reach_refusals s d)) 0)
       (first_of (cond (has s.online d) [] (shown_refusals s d bytes))) (first_of (reach_refusals s d))
   unfolding attach_refusals reach_refusals
   in_order = in_a_row _ (cons (λ z. lit< tt) (cons (λ z. lit< tt) nil))
-
-  pub refused_before : first_of (reach_refusals s d) ≢ 0
-      → first_of (reach_refusals s d) ≡ first_of (attach_refusals s d bytes)
-  refused_before ne = sym (in_order ∙ rw (ne_eqb _ 0 ne))
-
-  module _ (passed : first_of (reach_refusals s d) ≡ 0) where
-    pub unseen : has s.online d ≡ true → 0 ≡ first_of (attach_refusals s d bytes)
-    unfolding first_of
-    unseen m = sym (in_order ∙ rw (passed, m))
-
-    pub then_shown : has s.online d ≡ false
-        → first_of (shown_refusals s d bytes) ≡ first_of (attach_refusals s d bytes)
-    then_shown m = sym (in_order ∙ rw (passed, m))
 
   -- the label is held against its bay, and then against the stored one
   pub shown_in_order : first_of (shown_refusals s d bytes)

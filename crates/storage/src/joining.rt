@@ -11,7 +11,7 @@ use crate::checks::join_refusal;
 use budget::{ended, size_of, started};
 use moves::{live_length, move_length, move_to, move_to_live};
 use protocol::{Answer, State};
-use state::without_stores;
+use state::refused;
 
 // "if L differs from G, move to L. Copy all blocks, ascending, from the lowest
 // member of L to d. Then move to L with d."
@@ -33,14 +33,13 @@ fn join_stores(s: State, area: &mut [u8], d: usize, budget: u16) -> Answer
 }
 
 // Given no output, it leaves any.
+#[tactic(auto, using(refusals::proofs::Numbers::refuses), unfolding(protocol::specs::Calls::join_outcome, protocol::specs::Outcomes::refused_or))]
 pub fn join(s: State, area: &mut [u8], d: usize, budget: u16) -> Answer
     ensures { (output : List ℕ) → yields result area.new output
         ≡ join_outcome s area.old output d budget }
 {
-    let refusal = join_refusal(s, area.len(), d);
-    if refusal == 0 {
-        join_stores(s, area, d, budget)
-    } else {
-        without_stores(s, refusal)
+    match join_refusal(s, area, d) {
+        Ok(()) => join_stores(s, area, d, budget),
+        Err(refusal) => refused(s, refusal),
     }
 }

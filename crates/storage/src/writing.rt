@@ -15,7 +15,7 @@ use dirty::dirty_disks;
 use moves::{live_length, move_to_live};
 use protocol::geometry::REGION_SIZE;
 use protocol::{Answer, State};
-use state::without_stores;
+use state::refused;
 
 // "if L differs from G, move to L. Then set the region's dirty bit on each disk of L, ascending, where it does not
 // stand. Then store the block on each disk of L, ascending."
@@ -25,12 +25,11 @@ fn write_stores(s: State, area: &mut [u8], k: usize, bytes: &[u8], budget: u16) 
         ≡ carry_out (write_list s k bytes.now) budget s area.old output
         (runs_with (live s) s output) }
 {
-    let labels = s.labels;
     let size = size_of(s);
     let n = size.disks;
     let live = state::live(s);
     let region = k / REGION_SIZE;
-    let unmarked = sets::difference(live, dirty_disks(labels, n, region));
+    let unmarked = sets::difference(live, dirty_disks(s.labels, n, region));
     let stores = live_length(s) + sets::size(unmarked) + sets::size(live);
     let run = move_to_live(started(s, budget), s);
     let run = changes::store_labels(run, n, unmarked, Change::Mark(region));
@@ -39,14 +38,13 @@ fn write_stores(s: State, area: &mut [u8], k: usize, bytes: &[u8], budget: u16) 
 }
 
 // Given no output, it leaves any.
+#[tactic(auto, using(refusals::proofs::Numbers::refuses), unfolding(protocol::specs::Calls::write_outcome, protocol::specs::Outcomes::refused_or))]
 pub fn write(s: State, area: &mut [u8], k: usize, bytes: &[u8], budget: u16) -> Answer
     ensures { (output : List ℕ) → yields result area.new output
         ≡ write_outcome s area.old output k bytes.now budget }
 {
-    let refusal = block_refusal(s, area.len(), k, bytes.len());
-    if refusal == 0 {
-        write_stores(s, area, k, bytes, budget)
-    } else {
-        without_stores(s, refusal)
+    match block_refusal(s, area, k, bytes) {
+        Ok(()) => write_stores(s, area, k, bytes, budget),
+        Err(refusal) => refused(s, refusal),
     }
 }

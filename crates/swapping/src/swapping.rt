@@ -12,7 +12,7 @@ use label::blank;
 use moves::moved_to_live;
 use protocol::{Answer, State};
 use sets::DISKS;
-use state::{current, with_labels, without_stores};
+use state::{current, done, refused, with_labels};
 
 // "If d is in G the cabinet first moves to L, within the supply." A move changes labels only.
 fn swap_stores(s: State, d: usize, budget: u16) -> Answer
@@ -20,11 +20,10 @@ fn swap_stores(s: State, d: usize, budget: u16) -> Answer
     ensures { (area output : List ℕ) → yields result area output
         ≡ carry_out (swap_list s d) budget s area output (moved_off s d output) }
 {
-    let power = s.power;
-    if sets::has(current(power), d) {
+    if sets::has(current(s.power), d) {
         moved_to_live(s, budget)
     } else {
-        without_stores(s, 0)
+        done(s)
     }
 }
 
@@ -33,25 +32,26 @@ fn with_blank_label(answer: Answer, d: usize) -> Answer
     ensures { result ≡ with_blank_label answer d }
 {
     let state = answer.state;
-    let power = state.power;
     let mut labels = state.labels;
     labels[d] = blank();
     Answer {
-        refusal: answer.refusal,
-        stores: answer.stores,
-        state: with_labels(state, labels, power),
+        state: with_labels(state, labels, state.power),
+        ..answer
     }
 }
 
 // "When that is done, d has an empty label, zero blocks (no counted stores), and is still out of reach until returned.
 // A cut during the move leaves the old disk in." Given no output, it leaves any.
+#[tactic(auto, using(refusals::proofs::Numbers::refuses), unfolding(
+    protocol::specs::Calls::swap_outcome,
+    protocol::specs::Outcomes::refused_or
+))]
 pub fn swap(s: State, area: &mut [u8], d: usize, budget: u16) -> Answer
     ensures { (output : List ℕ) → yields result area.new output
         ≡ swap_outcome s area.old output d budget }
 {
-    let refusal = swap_refusal(s, area.len(), d);
-    if refusal != 0 {
-        return without_stores(s, refusal);
+    if let Err(refusal) = swap_refusal(s, area, d) {
+        return refused(s, refusal);
     }
     let answer = swap_stores(s, d, budget);
     if answer.refusal != 0 {

@@ -5,7 +5,7 @@ use Rattle.storage.proofs.reading.read_stores.Goals as goal
 
 pub returns-then-all_live : goal.returns-then-all_live
 returns-then-all_live c area output =
-    rw c.without_stores.ensures
+    rw c.done.ensures
     (no_stores c.args.s c.args.budget area output c.requires.1
     (sym c.all_live.ensures ∙ c.if-all_live.true))
 
