@@ -1,3 +1,2 @@
 -- The laws of parts of the area.
 pub mod Parts
-pub mod Sizes

@@ -1,5 +1,5 @@
-// Blocks in the disk area: the only code that computes where a block stands. A block on its way is held by value: a
-// copy from one lent buffer to another goes byte by byte, since compiled code must reckon that they overlap.
+// Blocks in the disk area: the only code that computes where a block stands. A block on its way is held by value, and
+// not copied from one lent buffer to another: compiled code must reckon that two lent buffers overlap.
 #![tactic(auto)]
 
 ghost use Rattle.std.specs.Prelude.{◌≡◌, ◌*◌, ◌≤◌, ◌<◌, eqb, length, take, drop};
@@ -8,7 +8,6 @@ ghost use Rattle.protocol.specs.Geometry.{most_disks, most_blocks, block_size, a
 ghost use Rattle.protocol.specs.Geometry.{with_zero_disk};
 ghost use Rattle.area.specs.Parts.{InArea, InPart};
 
-use buffers::clear;
 use protocol::geometry::BLOCK_SIZE;
 
 // Where disk d's part of the area starts. It ends where the next disk's starts.
@@ -19,32 +18,23 @@ fn start(blocks: usize, d: usize) -> usize
     d * blocks * BLOCK_SIZE
 }
 
-// Block k of some bytes: of one disk's part, or of a block lent by itself.
+// Block k of a disk's part.
 fn load_block(part: &[u8], k: usize) -> [u8; BLOCK_SIZE]
     requires { InPart k part.now }
     ensures { result ≡ take block_size (drop (k * block_size) part.now) }
 {
     let at = k * BLOCK_SIZE;
-    let mut bytes = [0u8; BLOCK_SIZE];
-    let mut i = 0;
-    while i < BLOCK_SIZE {
-        bytes[i] = part[at + i];
-        i += 1;
-    }
-    bytes
+    from_slice(&part[at..at + BLOCK_SIZE])
 }
 
 // The bytes as block k of the same.
+#[tactic(auto, unfolding(buffers::specs::Buffers::splice))]
 fn store_block(part: &mut [u8], k: usize, bytes: [u8; BLOCK_SIZE])
     requires { InPart k part.old }
     ensures { part.new ≡ splice (k * block_size) bytes part.old }
 {
     let at = k * BLOCK_SIZE;
-    let mut i = 0;
-    while i < BLOCK_SIZE {
-        part[at + i] = bytes[i];
-        i += 1;
-    }
+    to_slice(&mut part[at..at + BLOCK_SIZE], bytes);
 }
 
 // Block k of disk d. "the work on one disk gets only that disk's part of the area"
@@ -74,7 +64,7 @@ pub fn zero_disk(area: &mut [u8], blocks: usize, d: usize)
 {
     let from = start(blocks, d);
     let to = start(blocks, d + 1);
-    clear(&mut area[from..to]);
+    area[from..to].fill(0);
 }
 
 // A block that is lent by itself.
@@ -82,7 +72,9 @@ pub fn from_slice(bytes: &[u8]) -> [u8; BLOCK_SIZE]
     requires { length bytes.now ≡ block_size }
     ensures { result ≡ bytes.now }
 {
-    load_block(bytes, 0)
+    let mut block = [0; BLOCK_SIZE];
+    block.copy_from_slice(bytes);
+    block
 }
 
 // The bytes to an output of one block.
@@ -90,18 +82,17 @@ pub fn to_slice(output: &mut [u8], bytes: [u8; BLOCK_SIZE])
     requires { length output.old ≡ block_size }
     ensures { output.new ≡ bytes }
 {
-    store_block(output, 0, bytes);
+    output.copy_from_slice(&bytes);
 }
 
-// Whether a buffer of this size is the disk area of so many disks and blocks: of any numbers,
-// whose product might overflow.
+// Whether a buffer of this size is the disk area of so many disks and blocks: of any numbers, whose product might
+// overflow.
+#[tactic(auto, unfolding(protocol::specs::Geometry::area_size))]
 pub fn fits(disks: usize, blocks: usize, size: usize) -> bool
     ensures { result ≡ eqb size (area_size disks blocks) }
 {
-    if blocks == 0 {
-        size == 0
-    } else {
-        let count = size / BLOCK_SIZE;
-        (size % BLOCK_SIZE == 0) & ((count % blocks == 0) & (count / blocks == disks))
-    }
+    let Some(count) = disks.checked_mul(blocks) else {
+        return false;
+    };
+    count.checked_mul(BLOCK_SIZE) == Some(size)
 }

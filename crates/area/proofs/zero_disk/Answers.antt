@@ -4,4 +4,4 @@ use Rattle.area.proofs.zero_disk.Goals as goal
 pub returns : goal.returns
 returns c =
     disk_clears _ _ _ _ _ _ c.requires c.start-from.ensures c.start-to.ensures _
-    c.clear.ensures
+    (c.fill.ensures.after (λ y same. same))
