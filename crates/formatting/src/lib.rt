@@ -48,10 +48,7 @@ fn formatted(disks: usize, blocks: usize) -> State
 }
 
 // Given no output, it leaves any.
-#[tactic(auto, using(refusals::proofs::Numbers::refuses), unfolding(
-    protocol::specs::Calls::format_outcome,
-    protocol::specs::Outcomes::refused_or
-))]
+#[tactic(auto, using(refusals::proofs::Numbers::refuses), unfolding(protocol::specs::Calls::format_outcome, protocol::specs::Outcomes::refused_or))]
 pub fn format(disks: usize, blocks: usize, area: &mut [u8]) -> Answer
     ensures { (output : List ℕ) → yields result area.new output
         ≡ format_outcome area.old output disks blocks }

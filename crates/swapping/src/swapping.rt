@@ -42,10 +42,7 @@ fn with_blank_label(answer: Answer, d: usize) -> Answer
 
 // "When that is done, d has an empty label, zero blocks (no counted stores), and is still out of reach until returned.
 // A cut during the move leaves the old disk in." Given no output, it leaves any.
-#[tactic(auto, using(refusals::proofs::Numbers::refuses), unfolding(
-    protocol::specs::Calls::swap_outcome,
-    protocol::specs::Outcomes::refused_or
-))]
+#[tactic(auto, using(refusals::proofs::Numbers::refuses), unfolding(protocol::specs::Calls::swap_outcome, protocol::specs::Outcomes::refused_or))]
 pub fn swap(s: State, area: &mut [u8], d: usize, budget: u16) -> Answer
     ensures { (output : List ℕ) → yields result area.new output
         ≡ swap_outcome s area.old output d budget }

@@ -11,7 +11,7 @@ returns-then-has c area output =
 pub returns-else-has : goal.returns-else-has
 returns-else-has c area output =
     let a = c.args in
-    rw c.without_stores.ensures
+    rw c.done.ensures
     (spare_stays a.s a.d a.budget area output
     (rw (c.has.ensures, c.current.ensures) at c.if-has.false))
 
