@@ -1,12 +1,33 @@
-// What each stage asks of a label.
-ghost use Rattle.std.specs.Prelude.{◌≡◌};
+// Which stage a number stands for, and what each stage asks of a label.
+ghost use Rattle.std.specs.Prelude.{◌≡◌, true, false, MatchResult};
+ghost use Rattle.refusals.specs.declared.Refusal.TheVariants.{NoSuchStage};
 ghost use Rattle.protocol.specs.Naming.{backs};
 ghost use Rattle.protocol.specs.Finder.{tried};
+ghost use Rattle.protocol.specs.Diagnosis.{no_such_stage, stage_numbered};
 ghost use Rattle.finder.specs.Stages.{stage_of};
 
 use crate::Stage;
 use label::Label;
+use refusals::Refusal;
 use sets::Mask;
+
+// "23, the stage is not 1, 2 or 3"
+impl TryFrom<usize> for Stage {
+    type Error = Refusal;
+
+    ghost try_from_gives = { λ number result. MatchResult result
+        (λ stage. (no_such_stage number ≡ false) × (stage_of stage ≡ stage_numbered number))
+        (λ refusal. (no_such_stage number ≡ true) × (refusal ≡ NoSuchStage)) };
+
+    fn try_from(number: usize) -> Result<Stage, Refusal> {
+        match number {
+            1 => Ok(Stage::First),
+            2 => Ok(Stage::Second),
+            3 => Ok(Stage::Third),
+            _ => Err(Refusal::NoSuchStage),
+        }
+    }
+}
 
 impl Stage {
     // "Stage 1: every member has T = X. Stage 2: every member has T = X or C = X .. Stage 3: every member has C = X."
