@@ -9,8 +9,8 @@ pub fn size_of(s: State) -> Size
     ensures { result ≡ record { disks = s.disks; blocks = s.blocks } }
 {
     Size {
-        disks: s.disks as usize,
-        blocks: s.blocks as usize,
+        disks: usize::from(s.disks),
+        blocks: usize::from(s.blocks),
     }
 }
 
@@ -18,9 +18,10 @@ pub fn size_of(s: State) -> Size
 pub fn started(s: State, budget: u16) -> Run
     ensures { result ≡ record { labels = s.labels; left = budget } }
 {
+    // By a variable: a field that is an array is not proved straight in a literal.
     let labels = s.labels;
     Run {
-        labels: labels,
+        labels,
         left: budget,
     }
 }
