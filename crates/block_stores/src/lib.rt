@@ -26,15 +26,12 @@ pub fn store_blocks(
         ≡ run_all size.blocks (for_each size.disks set (λ d. write d k bytes ∷ []))
         (progress run area.old) }
 {
-    let n = size.disks;
     let mut run = run;
-    let mut d = 0;
-    while d < n {
+    for d in 0..size.disks {
         if (run.left != 0) & sets::has(set, d) {
             area::store(area, size.blocks, d, k, bytes);
             run.left -= 1;
         }
-        d += 1;
     }
     run
 }
@@ -69,10 +66,8 @@ pub fn copy_blocks(
         (progress run area.old) }
 {
     let mut run = run;
-    let mut i = 0;
-    while i < count {
+    for i in 0..count {
         run = copy_block(run, area, size, from, set, first + i);
-        i += 1;
     }
     run
 }
@@ -86,13 +81,11 @@ pub fn copy_disk(run: Run, area: &mut [u8], size: Size, from: usize, to: usize) 
 {
     let blocks = size.blocks;
     let mut run = run;
-    let mut k = 0;
-    while k < blocks {
+    for k in 0..blocks {
         if run.left != 0 {
             area::store(area, blocks, to, k, area::load(area, blocks, from, k));
             run.left -= 1;
         }
-        k += 1;
     }
     run
 }

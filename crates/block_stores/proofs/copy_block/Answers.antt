@@ -1,14 +1,12 @@
 use mathlib.Core.Path.{◌∙◌}
-use native.Mathlib.Omega.{arith}
 use Rattle.budget.specs.Runs.{progress}
 use Rattle.block_stores.proofs.Copying.{in_area, loaded_once}
 use Rattle.block_stores.proofs.copy_block.Goals as goal
 
 pub load-bytes-requires : goal.load-bytes-requires
 load-bytes-requires c =
-    let a = c.args in
     let pre = c.requires in
-    in_area a.size.disks a.size.blocks _ a.k a.area.now pre.0 (omega arith) pre.3
+    in_area _ _ _ _ _ pre.0 pre.1 pre.3
 
 pub returns : goal.returns
 returns c =

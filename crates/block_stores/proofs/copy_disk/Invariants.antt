@@ -1,6 +1,5 @@
 use mathlib.Core.Path.{◌≡◌}
 use mathlib.Core.List.{[], ◌∷◌}
-use Prim.Native.Nat.{◌-◌, ◌≤◌}
 use lib.ListN.{length}
 use Rattle.protocol.specs.Loops.{ascending}
 use Rattle.protocol.specs.Stores.{copy}
@@ -9,9 +8,6 @@ use Rattle.block_stores.proofs.copy_disk.Given as goal
 
 abbrev pub invariant-loop-k : goal.invariant-loop-k
 invariant-loop-k l =
-    (l.k ≤ l.blocks) × (length l.area ≡ length l.initial.area)
+    (length l.area ≡ length l.initial.area)
     × (progress l.run l.area ≡ run_all l.blocks (ascending l.k (λ j. copy l.from l.to j ∷ []))
     (progress l.initial.run l.initial.area))
-
-abbrev pub decreases-loop-k : goal.decreases-loop-k
-decreases-loop-k l = l.blocks - l.k

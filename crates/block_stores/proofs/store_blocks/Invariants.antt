@@ -1,6 +1,5 @@
 use mathlib.Core.Path.{◌≡◌}
 use mathlib.Core.List.{[], ◌∷◌}
-use Prim.Native.Nat.{◌-◌, ◌≤◌}
 use lib.ListN.{length}
 use Rattle.protocol.specs.Stores.{write}
 use Rattle.protocol.specs.Loops.{for_each}
@@ -9,9 +8,6 @@ use Rattle.block_stores.proofs.store_blocks.Given as goal
 
 abbrev pub invariant-loop-d : goal.invariant-loop-d
 invariant-loop-d l =
-    (l.d ≤ l.n) × (length l.area ≡ length l.initial.area)
+    (length l.area ≡ length l.initial.area)
     × (progress l.run l.area ≡ run_all l.size.blocks (for_each l.d l.set (λ e. write e l.k l.bytes ∷ []))
     (progress l.initial.run l.initial.area))
-
-abbrev pub decreases-loop-d : goal.decreases-loop-d
-decreases-loop-d l = l.n - l.d
