@@ -22,31 +22,31 @@ pub enum Change {
     Commit(Mask),
 }
 
-fn changed(l: Label, change: Change) -> Label
-    requires { FitChange change }
-    ensures { result ≡ changed change l }
-{
-    match change {
-        Change::Mark(r) => Label {
-            committed: l.committed,
-            tentative: l.tentative,
-            dirty: regions::marked(l.dirty, r),
-        },
-        Change::Clear(r) => Label {
-            committed: l.committed,
-            tentative: l.tentative,
-            dirty: regions::cleared(l.dirty, r),
-        },
-        Change::Propose(set) => Label {
-            committed: l.committed,
-            tentative: set,
-            dirty: l.dirty,
-        },
-        Change::Commit(set) => Label {
-            committed: set,
-            tentative: 0,
-            dirty: l.dirty,
-        },
+impl Change {
+    // What the store leaves of a label.
+    fn apply(self, l: Label) -> Label
+        requires { FitChange self }
+        ensures { result ≡ changed self l }
+    {
+        match self {
+            Change::Mark(r) => Label {
+                dirty: regions::marked(l.dirty, r),
+                ..l
+            },
+            Change::Clear(r) => Label {
+                dirty: regions::cleared(l.dirty, r),
+                ..l
+            },
+            Change::Propose(set) => Label {
+                tentative: set,
+                ..l
+            },
+            Change::Commit(set) => Label {
+                committed: set,
+                tentative: 0,
+                ..l
+            },
+        }
     }
 }
 
@@ -62,17 +62,11 @@ pub fn store_labels(run: Run, n: usize, set: Mask, change: Change) -> Run
     }
     let mut labels = run.labels;
     let mut left = run.left;
-    let mut d = 0;
-    while d < n {
+    for d in 0..n {
         if (left != 0) & sets::has(set, d) {
-            let l = changed(labels[d], change);
-            labels[d] = l;
+            labels[d] = change.apply(labels[d]);
             left -= 1;
         }
-        d += 1;
     }
-    Run {
-        labels: labels,
-        left: left,
-    }
+    Run { labels, left }
 }
