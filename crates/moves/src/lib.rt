@@ -30,8 +30,7 @@ pub fn move_to(run: Run, n: usize, set: Mask) -> Run
 pub fn all_live(s: State) -> bool
     ensures { result ≡ eqb (live s) (current_of s.power) }
 {
-    let power = s.power;
-    live(s) == current(power)
+    live(s) == current(s.power)
 }
 
 // "if L differs from G, move to L"
@@ -53,6 +52,7 @@ pub fn move_length(set: Mask) -> usize
 }
 
 // How many "if L differs from G, move to L" has.
+#[tactic(auto, unfolding(protocol::specs::Lists::move_to_live))]
 pub fn live_length(s: State) -> usize
     ensures { (Sound s → result ≡ length (move_to_live s)) × (result ≤ 2 * most_disks) }
 {

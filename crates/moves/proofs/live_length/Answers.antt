@@ -1,12 +1,7 @@
 use mathlib.Core.Path.{sym, ◌∙◌}
-use native.Mathlib.Omega.{arith}
 use Rattle.protocol.specs.Lists.{move_to_live}
 use Rattle.protocol.proofs.Soundness.{live_known}
 use Rattle.moves.proofs.live_length.Goals as goal
-
-pub returns-then-all_live : goal.returns-then-all_live
-unfolding move_to_live
-returns-then-all_live c = (λ fit. rw (sym c.all_live.ensures ∙ c.if-all_live.true), omega arith)
 
 pub returns-else-all_live : goal.returns-else-all_live
 unfolding move_to_live
