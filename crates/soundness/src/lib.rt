@@ -16,6 +16,7 @@ use sets::{DISKS, Mask};
 use state::current;
 
 // "n and b are in range"
+#[tactic(auto, unfolding(protocol::specs::Soundness::in_range))]
 fn in_range(n: usize, b: usize) -> bool
     ensures { result ≡ in_range n b }
 {
@@ -23,6 +24,7 @@ fn in_range(n: usize, b: usize) -> bool
 }
 
 // "a C or T that is not 0 names its own disk"
+#[tactic(auto, unfolding(crate::specs::Clauses::own_disk))]
 fn own_disk(d: usize, set: Mask) -> bool
     ensures { result ≡ own_disk d set }
 {
@@ -38,32 +40,35 @@ struct Survey {
     dirty: RegionMap,
 }
 
-// The label of disk d, beside those that were surveyed: of a member "C = G and T = 0", of another disk below n what its
-// own sets say; "labels from n up are all zero".
-fn add(survey: Survey, n: usize, g: Mask, d: usize, l: Label) -> Survey
-    ensures { result ≡ add n g d l survey }
-{
-    if sets::has(g, d) {
-        return Survey {
-            fit: survey.fit & ((l.committed == g) & (l.tentative == 0)),
-            named: survey.named,
-            dirty: regions::union(survey.dirty, l.dirty),
-        };
-    }
-    if d < n {
-        return Survey {
-            fit: survey.fit & (own_disk(d, l.committed) & own_disk(d, l.tentative)),
-            named: sets::union(survey.named, sets::union(l.committed, l.tentative)),
-            dirty: regions::union(survey.dirty, l.dirty),
-        };
-    }
-    Survey {
-        fit: survey.fit & same(l, blank()),
-        named: survey.named,
-        dirty: survey.dirty,
+impl Survey {
+    // With the label of disk d beside those that were surveyed: of a member "C = G and T = 0", of another disk below n
+    // what its own sets say; "labels from n up are all zero".
+    #[tactic(auto, unfolding(crate::specs::Clauses::add))]
+    fn add(self, n: usize, g: Mask, d: usize, l: Label) -> Self
+        ensures { result ≡ add n g d l self }
+    {
+        if sets::has(g, d) {
+            return Survey {
+                fit: self.fit & ((l.committed == g) & (l.tentative == 0)),
+                dirty: regions::union(self.dirty, l.dirty),
+                ..self
+            };
+        }
+        if d < n {
+            return Survey {
+                fit: self.fit & (own_disk(d, l.committed) & own_disk(d, l.tentative)),
+                named: sets::union(self.named, sets::union(l.committed, l.tentative)),
+                dirty: regions::union(self.dirty, l.dirty),
+            };
+        }
+        Survey {
+            fit: self.fit & same(l, blank()),
+            ..self
+        }
     }
 }
 
+#[tactic(auto, unfolding(crate::specs::Clauses::survey_below))]
 fn survey_labels(n: usize, g: Mask, labels: [Label; DISKS]) -> Survey
     ensures { result ≡ survey_below n g labels most_disks }
 {
@@ -72,15 +77,14 @@ fn survey_labels(n: usize, g: Mask, labels: [Label; DISKS]) -> Survey
         named: 0,
         dirty: 0,
     };
-    let mut d = 0;
-    while d < DISKS {
-        survey = add(survey, n, g, d, labels[d]);
-        d += 1;
+    for d in 0..DISKS {
+        survey = survey.add(n, g, d, labels[d]);
     }
     survey
 }
 
 // "when running, G is not empty"
+#[tactic(auto, unfolding(crate::specs::Clauses::filled))]
 fn filled(power: Power) -> bool
     ensures { result ≡ filled power }
 {
@@ -95,12 +99,10 @@ pub fn sound(s: State) -> bool
 {
     let n = s.disks as usize;
     let b = s.blocks as usize;
-    let labels = s.labels;
-    let power = s.power;
-    let g = current(power);
-    let survey = survey_labels(n, g, labels);
+    let g = current(s.power);
+    let survey = survey_labels(n, g, s.labels);
     let named = sets::union(sets::union(s.online, g), survey.named);
     let known = sets::below(named, n);
     let regions_known = regions::below(survey.dirty, region_count(b));
-    in_range(n, b) & (known & (regions_known & (survey.fit & filled(power))))
+    in_range(n, b) & (known & (regions_known & (survey.fit & filled(s.power))))
 }
