@@ -1,5 +1,7 @@
 // Blocks in the disk area: the only code that computes where a block stands. A block on its way is held by value, and
-// not copied from one lent buffer to another: compiled code must reckon that two lent buffers overlap.
+// not copied from one lent buffer to another: compiled code must reckon that two lent buffers overlap. The area is a
+// parameter and no struct that holds it: two functions change it, and each would have to promise beside its equation
+// that the struct keeps the reference.
 #![tactic(auto)]
 
 ghost use Rattle.std.specs.Prelude.{◌≡◌, ◌*◌, ◌≤◌, ◌<◌, eqb, length, take, drop};

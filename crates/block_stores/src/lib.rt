@@ -1,4 +1,6 @@
 // Stores of blocks under a budget. The work on a disk's block gets that disk's part of the area from the crate `area`.
+// Area and size are no struct with `Fits` for its invariant: each method would have to promise that it keeps the
+// reference and the size, two clauses in the place of that one, and each loop to keep both.
 #![tactic(auto)]
 
 ghost use Rattle.std.specs.Prelude.{◌≡◌, false, [], ◌∷◌, ◌+◌, ◌≤◌, ◌<◌};

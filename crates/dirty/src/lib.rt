@@ -1,6 +1,7 @@
 // Where dirty bits stand: for a region a set of disks, so that "where it stands" is an intersection, "where it does not
 // stand" a difference, and their ones counts are list lengths; for some disks a map of regions. The loops go over all
-// eight labels, so that compiled code knows the disk in each iteration.
+// eight labels, so that compiled code knows the disk in each iteration. They are two: a set and a map have widths of
+// their own.
 #![tactic(auto)]
 
 ghost use Rattle.std.specs.Prelude.{◌≡◌, ◌≤◌};
