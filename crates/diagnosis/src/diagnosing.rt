@@ -5,14 +5,15 @@ ghost use Rattle.protocol.specs.Soundness.{Sound};
 ghost use Rattle.naming.specs.Meaning.{found_of};
 ghost use Rattle.finder.specs.Stages.{stage_of};
 
-use crate::checks::diagnose_refusal;
-use finder::{Stage, find, reason_for};
+use crate::checks::stage_asked;
+use finder::{Stage, View};
 use label::Label;
 use naming::Naming;
 use protocol::{Diagnosis, Reason, State};
 use sets::Mask;
 
 // "one disk's own set (its T if there is one, else its C)"
+#[tactic(auto, unfolding(protocol::specs::Diagnosis::own_set))]
 fn own_set(l: Label) -> Mask
     ensures { result ≡ own_set l }
 {
@@ -23,59 +24,46 @@ fn own_set(l: Label) -> Mask
     }
 }
 
-// The stage of a number; of one that is refused, the third.
-fn stage_numbered(number: usize) -> Stage
-    ensures { stage_of result ≡ stage_numbered number }
-{
-    if number == 1 {
-        Stage::First
-    } else if number == 2 {
-        Stage::Second
-    } else {
-        Stage::Third
-    }
-}
-
 // "If a restart at this moment would find a set without the asked disk, the tool gives that set as well, otherwise 0."
 fn set_without(d: usize, found: Naming) -> Mask
     ensures { result ≡ set_without d (found_of found) }
 {
     match found {
-        Naming::Nothing => 0,
-        Naming::One(x) => if sets::has(x, d) { 0 } else { x },
-        Naming::Several => 0,
+        Ok(set) if !sets::has(set, d) => set,
+        _ => 0,
     }
 }
 
 // What is said of a disk that there is, by the labels of a sound state.
-fn diagnosed(s: State, stage: usize, d: usize) -> Diagnosis
-    requires { Sound s × (d < s.disks) }
-    ensures { result ≡ diagnosed s stage d }
+fn diagnosed(s: State, stage: Stage, number: usize, d: usize) -> Diagnosis
+    requires { Sound s × (d < s.disks) × (stage_of stage ≡ stage_numbered number) }
+    ensures { result ≡ diagnosed s number d }
 {
     let labels = s.labels;
-    let disks = s.disks as usize;
-    let stage = stage_numbered(stage);
-    let reason = reason_for(stage, disks, s.online, labels, own_set(labels[d]));
-    let found = find(disks, s.online, labels);
+    let view = View {
+        disks: s.disks as usize,
+        online: s.online,
+        labels,
+    };
+    let reason = view.reason_for(stage, own_set(labels[d]));
     Diagnosis {
         refusal: 0,
-        reason: reason,
-        set: set_without(d, found),
+        reason,
+        set: set_without(d, view.find()),
     }
 }
 
 // It is given the state and gives none back: "It changes nothing."
+#[tactic(auto, using(refusals::proofs::Numbers::refuses), unfolding(protocol::specs::Diagnosis::diagnosis))]
 pub fn diagnose(s: State, stage: usize, d: usize) -> Diagnosis
     ensures { result ≡ diagnosis s stage d }
 {
-    let refusal = diagnose_refusal(s, stage, d);
-    if refusal == 0 {
-        diagnosed(s, stage, d)
-    } else {
-        Diagnosis {
-            refusal: refusal,
+    match stage_asked(s, stage, d) {
+        Ok(asked) => diagnosed(s, asked, stage, d),
+        Err(refusal) => Diagnosis {
+            refusal: refusal.number(),
             reason: Reason::NoReason,
             set: 0,
-        }
+        },
     }
 }

@@ -1,4 +1,3 @@
 -- The laws of a restart.
 pub mod RestartList
-pub mod SoundFirst
 pub mod Passed

@@ -7,16 +7,12 @@ use protocol::geometry::REGION_SIZE;
 use sets::Mask;
 
 // How many of the b blocks region r has.
+#[tactic(auto, unfolding(protocol::specs::Geometry::region_blocks))]
 pub(crate) fn region_blocks(b: usize, r: usize) -> usize
     requires { r * region_size ≤ b }
     ensures { result ≡ region_blocks b r }
 {
-    let rest = b - r * REGION_SIZE;
-    if rest < REGION_SIZE {
-        rest
-    } else {
-        REGION_SIZE
-    }
+    REGION_SIZE.min(b - r * REGION_SIZE)
 }
 
 // The members that a restart copies to.

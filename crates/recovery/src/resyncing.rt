@@ -37,10 +37,8 @@ pub(crate) fn resyncs_length(dirty: RegionMap, size: Size, set: Mask) -> usize
     }
     let regions = bays::region_count(size.blocks);
     let mut stores = 0;
-    let mut r = 0;
-    while r < regions {
+    for r in 0..regions {
         stores += resync_length(dirty, size, set, r);
-        r += 1;
     }
     stores
 }
@@ -84,10 +82,8 @@ pub(crate) fn resync_all(run: Run, area: &mut [u8], dirty: RegionMap, size: Size
     }
     let regions = bays::region_count(size.blocks);
     let mut run = run;
-    let mut r = 0;
-    while r < regions {
+    for r in 0..regions {
         run = resync(run, area, dirty, size, set, r);
-        r += 1;
     }
     run
 }

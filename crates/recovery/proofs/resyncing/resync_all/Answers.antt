@@ -12,13 +12,12 @@ use Rattle.recovery.proofs.resyncing.resync_all.Goals as goal
 pub resync-run-requires : goal.resync-run-requires
 resync-run-requires c =
     let pre = c.requires in
-    (still_fits pre.0 c.loop-r.invariant.1, pre.1, pre.2, omega arith)
+    (still_fits pre.0 c.loop-r.invariant.0, pre.1, pre.2, omega arith)
 
 pub loop-r-preserved : goal.loop-r-preserved
 loop-r-preserved c = (
   omega arith,
-  omega arith,
-  run_next _ _ _ _ c.loop-r.invariant.2 c.resync-run.ensures,
+  run_next _ _ _ _ c.loop-r.invariant.1 c.resync-run.ensures,
 )
 
 pub returns-then-dirty-eq0 : goal.returns-then-dirty-eq0
@@ -30,8 +29,8 @@ unfolding resyncs_of
 returns c =
     let size = c.args.size in
     let e : c.loop-r.r ≡ regions size.blocks = omega arith in
-    rw e at c.loop-r.invariant.2
+    rw e at c.loop-r.invariant.1
 
 pub loop-r-init : goal.loop-r-init
 unfolding ascending run_all
-loop-r-init c = (omega arith, refl, refl)
+loop-r-init c = (refl, refl)

@@ -1,5 +1,4 @@
 use mathlib.Core.Path.{◌≡◌}
-use Prim.Native.Nat.{◌-◌, ◌≤◌}
 use lib.ListN.{length}
 use Rattle.protocol.specs.Loops.{ascending}
 use Rattle.budget.specs.Runs.{progress, run_all}
@@ -8,10 +7,7 @@ use Rattle.recovery.proofs.resyncing.resync_all.Given as goal
 
 abbrev pub invariant-loop-r : goal.invariant-loop-r
 invariant-loop-r l =
-    (l.r ≤ l.regions) × (length l.area ≡ length l.initial.area)
+    (length l.area ≡ length l.initial.area)
     × (progress l.run l.area
     ≡ run_all l.size.blocks (ascending l.r (resync_of l.size.disks l.size.blocks l.dirty l.set))
     (progress l.initial.run l.initial.area))
-
-abbrev pub decreases-loop-r : goal.decreases-loop-r
-decreases-loop-r l = l.regions - l.r

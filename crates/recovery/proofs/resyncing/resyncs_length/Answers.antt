@@ -16,13 +16,9 @@ pub overflow_add-stores : goal.overflow_add-stores
 unfolding regions
 overflow_add-stores c = omega arith
 
-pub overflow_add-r : goal.overflow_add-r
-unfolding regions
-overflow_add-r c = omega arith
-
 pub loop-r-preserved : goal.loop-r-preserved
 loop-r-preserved c =
-    (omega arith, length_next _ _ c.loop-r.invariant.1 c.resync_length-stores.ensures.0, omega arith)
+    (length_next _ _ c.loop-r.invariant.0 c.resync_length-stores.ensures.0, omega arith)
 
 pub returns-then-dirty-eq0 : goal.returns-then-dirty-eq0
 returns-then-dirty-eq0 c = (rw (c.if-dirty-eq0.true, nothing_dirty), omega arith)
@@ -31,8 +27,8 @@ pub returns : goal.returns
 unfolding regions resyncs_of
 returns c =
     let e : c.loop-r.r ≡ regions c.args.size.blocks = omega arith in
-    (rw e at c.loop-r.invariant.1, omega arith)
+    (rw e at c.loop-r.invariant.0, omega arith)
 
 pub loop-r-init : goal.loop-r-init
 unfolding ascending
-loop-r-init c = (omega arith, refl, omega arith)
+loop-r-init c = (refl, omega arith)
