@@ -3,8 +3,8 @@ use mathlib.Core.Path.{◌≡◌, refl, sym, ◌∙◌}
 use mathlib.Core.Logic.{◌≢◌}
 use mathlib.Core.Bool.{Bool, cond}
 use mathlib.Core.List.{List, [], ◌∷◌}
-use Prim.Native.Nat.{ℕ, suc, ◌+◌, ◌-◌, ◌*◌, ◌≤◌, ◌<◌}
-use native.Mathlib.Nat.{le_refl}
+use Prim.Native.Nat.{ℕ, zero, suc, ◌+◌, ◌-◌, ◌*◌, ◌≤◌, ◌<◌}
+use native.Mathlib.Nat.{le_refl, zero-add}
 use native.Mathlib.Numerals.{add-one}
 use native.Mathlib.Omega.{arith}
 use lib.Dec.{eqb, ltb, lit<}
@@ -12,21 +12,19 @@ use lib.ListN.{length, set, take, drop, length-drop}
 use lib.Seq.{set_at, append_snoc, take_all}
 use borrow.Author.Tests.{ne_eqb, eqb-true, ltb-false, not-false}
 use borrow.Rule.Slice.PartMut.{mid_of}
-use Rattle.sets.proofs.Tests.{or_parts}
+use Rattle.sets.proofs.Tests.{or_parts, clash}
 use Rattle.label.specs.declared.Label.{Label}
 use Rattle.label.specs.declared.Reading.{Reading}
-use Rattle.refusals.specs.Refusals.{first_of}
+use Rattle.refusals.specs.declared.Refusal.{Refusal}
+use Rattle.refusals.specs.Refusals.{first_of, number_of}
+use Rattle.refusals.proofs.Numbers.{refuses}
 use Rattle.label.specs.Reading.{reading}
 use Rattle.refusals.proofs.Order.{none_by}
 use Rattle.label.proofs.Accepting.{in_range_lem}
-use Rattle.protocol.specs.declared.Power.TheVariants.{Stopped}
-use Rattle.protocol.specs.declared.State.{State}
-use Rattle.protocol.specs.declared.Answer.{Answer}
 use Rattle.protocol.specs.Geometry.{label_form, most_disks, most_blocks}
 use Rattle.protocol.specs.Loops.{ascending}
 use Rattle.label.specs.Bytes.{blank}
-use Rattle.protocol.specs.States.{state_of, zero_state}
-use Rattle.protocol.specs.Saving.{slot_size, slot_reading, assemble_refusals, assembled, assemble_answer}
+use Rattle.protocol.specs.Saving.{slot_size, slot_reading, assemble_refusals}
 use Rattle.protocol.specs.Bays.{bay_refusals}
 use Rattle.protocol.proofs.Loops.{nil, cons, each_ascending}
 use Rattle.protocol.proofs.Iterations.{listed-length}
@@ -43,31 +41,47 @@ unfolding slot_reading
 slot_read slots d e =
     e ∙ rw (take_all (length slots - slot_size * d) (drop (slot_size * d) slots) (simp length-drop (le_refl _)))
 
-module _ (d n b : ℕ) (slots : List ℕ) {r : Reading} (found : r ≡ slot_reading slots d) where
-  pub refusal_next : {refusal own next : ℕ} → refusal ≡ first_of (refusals_below d n b slots)
-      → own ≡ first_of (bay_refusals d n b r)
-      → next ≡ cond (eqb refusal 0) own refusal → next ≡ first_of (refusals_below (d + 1) n b slots)
-  unfolding ascending
-  refusal_next before own next =
-      next
-      ∙ rw (before, own, found, add-one)
-      (sym (in_a_row _ (each_ascending d _ (λ i l. bay_numbered i n b (slot_reading slots i)))))
+module _ (n b : ℕ) (slots : List ℕ) where
+  abbrev bay : ℕ → List (ℕ × Bool)
+  bay d = bay_refusals d n b (slot_reading slots d)
 
-  pub label_next : {labels : List Label} → labels ≡ labels_below d slots → d < most_disks
-      → set labels d r.label ≡ labels_below (d + 1) slots
+  -- the slots below, and then the next
+  next_slot : (d : ℕ) → first_of (refusals_below (suc d) n b slots)
+      ≡ cond (eqb (first_of (refusals_below d n b slots)) 0) (first_of (bay d)) (first_of (refusals_below d n b slots))
   unfolding ascending
-  label_next e h =
-      let read : ℕ → Label = λ i. (slot_reading slots i).label in
-      let before = ascending d (λ i. read i ∷ []) in
-      let room : most_disks - d ≡ suc (most_disks - (d + 1)) = omega arith in
-      rw (e, found, room, add-one)
-      (set_at before blank _ (read d) d (listed-length read d) ∙ sym (append_snoc before (read d) _))
+  next_slot d = in_a_row _ (each_ascending d _ (λ i l. bay_numbered i n b (slot_reading slots i)))
+
+  pub slot_passed : (d : ℕ) → first_of (refusals_below d n b slots) ≡ 0 → first_of (bay d) ≡ 0
+      → first_of (refusals_below (d + 1) n b slots) ≡ 0
+  slot_passed d before own = rw add-one (next_slot d ∙ rw (before, own))
+
+  -- what one slot is refused for, no later one changes
+  stays : (d more : ℕ) → first_of (refusals_below d n b slots) ≢ 0
+      → first_of (refusals_below (more + d) n b slots) ≡ first_of (refusals_below d n b slots)
+  stays d zero ne = rw zero-add
+  stays d (suc more) ne =
+      let e : suc more + d ≡ suc (more + d) = omega arith in
+      rw e (next_slot (more + d) ∙ rw (stays d more ne, ne_eqb _ 0 ne))
+
+  pub slot_stops : (d : ℕ) → d < n → first_of (refusals_below d n b slots) ≡ 0 → (r : Refusal)
+      → number_of r ≡ first_of (bay d) → number_of r ≡ first_of (refusals_below n n b slots)
+  slot_stops d inside before r own =
+      let here : first_of (refusals_below (suc d) n b slots) ≡ number_of r = next_slot d ∙ rw (before, own) in
+      let some : number_of r ≢ 0 = λ z. clash (rw z) (refuses r) in
+      let rest : (n - suc d) + suc d ≡ n = omega arith in
+      sym (rw (rest, here) at (stays (suc d) (n - suc d) (λ z. some (sym here ∙ z))))
+
+pub label_next : (d : ℕ) (slots : List ℕ) {label : Label} {labels : List Label} → label ≡ (slot_reading slots d).label
+    → labels ≡ labels_below d slots → d < most_disks → set labels d label ≡ labels_below (d + 1) slots
+unfolding ascending
+label_next d slots found e h =
+    let read : ℕ → Label = λ i. (slot_reading slots i).label in
+    let before = ascending d (λ i. read i ∷ []) in
+    let room : most_disks - d ≡ suc (most_disks - (d + 1)) = omega arith in
+    rw (e, found, room, add-one)
+    (set_at before blank _ (read d) d (listed-length read d) ∙ sym (append_snoc before (read d) _))
 
 -- ---- the arguments, and then the slots
-
--- an answer without stores
-abbrev answer : ℕ → State → Answer
-answer refusal s = record { refusal = refusal; stores = 0; state = s }
 
 module _ (n b online : ℕ) (slots : List ℕ) where
   abbrev refusals : List (ℕ × Bool)
@@ -83,18 +97,10 @@ module _ (n b online : ℕ) (slots : List ℕ) where
   pub slots_next : first_of (take 4 refusals) ≡ 0 → first_of refusals ≡ first_of (refusals_below n n b slots)
   slots_next e = arguments_then_slots ∙ rw e
 
-  pub arguments_stop : first_of (take 4 refusals) ≢ 0 → first_of refusals ≡ first_of (take 4 refusals)
-  arguments_stop ne = arguments_then_slots ∙ rw (ne_eqb _ 0 ne)
-
-  pub done_answer : {refusal : ℕ} {labels : List Label} → first_of refusals ≡ refusal → refusal ≡ 0
-      → labels ≡ labels_below n slots → answer 0 (state_of n b labels online Stopped) ≡ assemble_answer n b online slots
-  unfolding assemble_answer assembled
-  done_answer e z l = rw (e, z, l)
-
-  pub refused_answer : {refusal : ℕ} → first_of refusals ≡ refusal → refusal ≢ 0
-      → answer refusal zero_state ≡ assemble_answer n b online slots
-  unfolding assemble_answer
-  refused_answer e ne = rw (e, ne_eqb _ 0 ne)
+  pub arguments_stop : (r : Refusal) → number_of r ≡ first_of (take 4 refusals) → number_of r ≡ first_of refusals
+  arguments_stop r own =
+      let some : first_of (take 4 refusals) ≢ 0 = λ z. clash (rw (own ∙ z)) (refuses r) in
+      own ∙ sym (arguments_then_slots ∙ rw (ne_eqb _ 0 some))
 
 pub record ArgumentsPassed (n b : ℕ) (slots : List ℕ) : Type 0 where
   pub disks : n ≤ most_disks

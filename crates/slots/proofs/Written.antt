@@ -1,5 +1,5 @@
 -- Slots that are written one after the other. Assumes nothing.
-use mathlib.Core.Path.{◌≡◌, refl, sym, ◌∙◌}
+use mathlib.Core.Path.{◌≡◌, refl, ap, sym, ◌∙◌}
 use mathlib.Core.List.{List, ◌++◌, append-nil, append_assoc}
 use Prim.Native.Nat.{ℕ, ◌+◌, ◌-◌, ◌*◌, ◌≤◌}
 use native.Mathlib.Nat.{zero-add, mul-suc, add-sub_cancel_left}
@@ -9,11 +9,16 @@ use lib.Seq.{take-length, take-append_seam, take_at, drop_at, drop-drop, drop-le
 use borrow.Author.Tests.{eqb-true, not-false}
 use borrow.Rule.Slice.PartMut.{mid_of, put_mid}
 use Rattle.label.specs.declared.Label.{Label}
-use Rattle.label.specs.declared.Written.{Written}
 use Rattle.label.specs.Bytes.{encode}
-use Rattle.refusals.specs.Refusals.{first_of}
+use Rattle.std.specs.Result.{IsOk}
+use Rattle.std.proofs.Common.{Result, Ok, Err}
+use borrow.Author.Rules.{rules}
+use Rattle.sets.proofs.Tests.{clash}
+use Rattle.refusals.specs.declared.Refusal.{Refusal}
+use Rattle.refusals.specs.Refusals.{first_of, number_of}
+use Rattle.refusals.proofs.Numbers.{refuses}
 use Rattle.buffers.specs.Buffers.{splice}
-use Rattle.label.specs.Writing.{write_refusal, written, written_bytes}
+use Rattle.label.specs.Writing.{write_refusal, written, written_of, written_bytes}
 use Rattle.refusals.proofs.Order.{none_by}
 use Rattle.protocol.specs.declared.State.{State}
 use Rattle.protocol.specs.Geometry.{label_form}
@@ -44,23 +49,32 @@ rest_zero bytes slot fits =
 
 module _ (d n : ℕ) (l : Label) where
   -- in a slot that the writer takes
-  module _ (slot : List ℕ) (size : length slot ≡ slot_size) (none : write_refusal label_form d n l slot_size ≡ 0)
-      {w : Written} (e : w ≡ written label_form d n l (length slot)) where
-    label_length_lem : w.length ≡ length (encode label_form d n l)
-    unfolding written
-    label_length_lem = rw (e, size, none)
+  module _ (slot : List ℕ) (size : length slot ≡ slot_size) (none : write_refusal label_form d n l slot_size ≡ 0) where
+    abbrev bytes : List ℕ
+    bytes = encode label_form d n l
 
-    pub label_fits : w.length ≤ slot_size
-    label_fits = rw label_length_lem (label_codec.lengths d n l).1
+    pub takes : (r : Result ℕ Refusal) → written_of r ≡ written label_form d n l (length slot) → IsOk r
+    unfolding written
+    takes (Ok len) e = search rules
+    takes (Err r) e =
+        let zero : number_of r ≡ 0 = ap (λ w. w.refusal) e ∙ rw (size, none) in
+        clash (rw zero) (refuses r)
+
+    pub wrote : {r : Result ℕ Refusal} {len : ℕ} → written_of r ≡ written label_form d n l (length slot) → r ≡ Ok len
+        → len ≡ length bytes
+    unfolding written
+    wrote e ok = ap (λ w. w.length) (rw ok at e) ∙ rw (size, none)
+
+    pub label_fits : length bytes ≤ slot_size
+    label_fits = (label_codec.lengths d n l).1
 
     pub slot_filled : {old rest : List ℕ} → old ≡ written_bytes label_form d n l slot
-        → rest ≡ replicate (length (mid_of w.length (length slot - w.length) old)) 0
-        → put_mid w.length (length slot - w.length) old rest ≡ slot_bytes d n l
+        → rest ≡ replicate (length (mid_of (length bytes) (length slot - length bytes) old)) 0
+        → put_mid (length bytes) (length slot - length bytes) old rest ≡ slot_bytes d n l
     unfolding written_bytes splice slot_bytes
     slot_filled h zeros =
-        let bytes = encode label_form d n l in
-        let fits : length bytes ≤ length slot = rw size (label_codec.lengths d n l).1 in
-        rw (zeros, label_length_lem, h, size, none, zero-add) (rw size at (rest_zero bytes slot fits))
+        let fits : length bytes ≤ length slot = rw size label_fits in
+        rw (zeros, h, size, none, zero-add) (rw size at (rest_zero bytes slot fits))
 
 -- ---- one slot after the other
 

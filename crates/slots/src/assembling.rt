@@ -1,94 +1,63 @@
 // Assembling a state from slots.
-ghost use Rattle.std.specs.Prelude.{◌≡◌, ◌*◌, ◌≤◌, length, take};
-ghost use Rattle.refusals.specs.Refusals.{first_of};
+ghost use Rattle.std.specs.Prelude.{◌≡◌, ◌*◌, ◌≤◌, length, take, IfOk};
+ghost use Rattle.refusals.specs.Refusals.{first_of, refusal_number};
 ghost use Rattle.protocol.specs.Geometry.{most_disks};
-ghost use Rattle.protocol.specs.Saving.{slot_size, assemble_refusals, assemble_answer};
+ghost use Rattle.protocol.specs.Saving.{slot_size, assemble_refusals, assembled, assemble_answer};
 ghost use Rattle.slots.specs.Below.{refusals_below, labels_below};
 
 use crate::size::wrong_size;
-use bays::{bay_refusal, wrong_block_count, wrong_disk_count};
+use bays::{label_of_bay, wrong_block_count, wrong_disk_count};
 use label::Label;
 use label_forms::label_form;
 use protocol::geometry::SLOT_SIZE;
-use protocol::{Answer, Power};
-use refusals::numbers::{BLOCK_COUNT, BUFFER_LENGTH, DISK_COUNT, NO_SUCH_DISK};
-use refusals::{PASSED, Refusal, first_of, or_next};
+use protocol::{Answer, Power, State};
+use refusals::Refusal;
 use sets::{DISKS, Mask};
-use state::{blank_labels, state_of, without_stores, zero};
-
-// What slots are read as: the first refusal of theirs, 0 if there is none, and the labels.
-#[derive(Clone, Copy)]
-struct Slots {
-    refusal: u8,
-    labels: [Label; DISKS],
-}
+use state::{blank_labels, done, refused, state_of, zero};
 
 // "Assemble: 4. 5. 2, slots not 5 × n bytes. 8, R names a disk from n up."
-fn arguments_refusal(disks: usize, blocks: usize, online: Mask, slots: &[u8]) -> u8
-    ensures { result ≡ first_of (take 4 (assemble_refusals disks blocks online slots.now)) }
+#[tactic(auto, unfolding(refusals::specs::Refusals::first_of, protocol::specs::Saving::assemble_refusals))]
+fn arguments_refusal(disks: usize, blocks: usize, online: Mask, slots: &[u8]) -> Result<(), Refusal>
+    ensures { refusal_number result ≡ first_of (take 4 (assemble_refusals disks blocks online slots.now)) }
 {
-    let disk_count = wrong_disk_count(disks);
-    let block_count = wrong_block_count(blocks);
-    let size = wrong_size(disks, slots.len());
-    let known = sets::below(online, disks);
-    first_of([
-        Refusal(DISK_COUNT, disk_count),
-        Refusal(BLOCK_COUNT, block_count),
-        Refusal(BUFFER_LENGTH, size),
-        Refusal(NO_SUCH_DISK, !known),
-        PASSED,
-        PASSED,
-        PASSED,
-        PASSED,
-    ])
+    Refusal::DiskCount.when(wrong_disk_count(disks))?;
+    Refusal::BlockCount.when(wrong_block_count(blocks))?;
+    Refusal::BufferLength.when(wrong_size(disks, slots.len()))?;
+    Refusal::NoSuchDisk.when(!sets::below(online, disks))
 }
 
-// The label reader is handed the part of the slots that starts at a disk's slot.
-fn read_slots(disks: usize, blocks: usize, slots: &[u8]) -> Slots
+// "Then for each slot ascending": the first refusal of theirs, or else their labels. The label reader is handed the part
+// of the slots that starts at a disk's slot.
+fn read_slots(disks: usize, blocks: usize, slots: &[u8]) -> Result<[Label; DISKS], Refusal>
     requires { (disks ≤ most_disks) × (length slots.now ≡ slot_size * disks) }
-    ensures { (result.refusal ≡ first_of (refusals_below disks disks blocks slots.now))
-        × (result.labels ≡ labels_below disks slots.now) }
+    ensures refused { refusal_number result ≡ first_of (refusals_below disks disks blocks slots.now) }
+    ensures labels { IfOk result (λ labels. labels ≡ labels_below disks slots.now) }
 {
-    let mut refusal = 0;
     let mut labels = blank_labels();
-    let mut d = 0;
-    while d < disks {
-        let at = SLOT_SIZE * d;
-        let reading = label_form::read(&slots[at..]);
-        refusal = or_next(refusal, bay_refusal(d, disks, blocks, reading));
-        let label = reading.label;
+    for d in 0..disks {
+        let read = label_form::read(&slots[SLOT_SIZE * d..]);
+        let label = label_of_bay(d, disks, blocks, read)?;
         labels[d] = label;
-        d += 1;
     }
-    Slots {
-        refusal: refusal,
-        labels: labels,
-    }
-}
-
-// Assembles, once no argument is refused.
-fn from_slots(disks: usize, blocks: usize, online: Mask, slots: &[u8]) -> Answer
-    requires { first_of (take 4 (assemble_refusals disks blocks online slots.now)) ≡ 0 }
-    ensures { result ≡ assemble_answer disks blocks online slots.now }
-{
-    let found = read_slots(disks, blocks, slots);
-    if found.refusal == 0 {
-        let labels = found.labels;
-        let s = state_of(disks as u8, blocks as u8, labels, online, Power::Stopped);
-        without_stores(s, 0)
-    } else {
-        without_stores(zero(), found.refusal)
-    }
+    Ok(labels)
 }
 
 // "Assembling takes n, b, R and n slots, and gives a stopped state"
+fn stopped_state(disks: usize, blocks: usize, online: Mask, slots: &[u8]) -> Result<State, Refusal>
+    ensures refused { refusal_number result ≡ first_of (assemble_refusals disks blocks online slots.now) }
+    ensures state { IfOk result (λ state. state ≡ assembled disks blocks online slots.now) }
+{
+    arguments_refusal(disks, blocks, online, slots)?;
+    let labels = read_slots(disks, blocks, slots)?;
+    Ok(state_of(disks as u8, blocks as u8, labels, online, Power::Stopped))
+}
+
+#[tactic(auto, using(refusals::proofs::Numbers::refuses), unfolding(protocol::specs::Saving::assemble_answer))]
 pub fn assemble(disks: usize, blocks: usize, online: Mask, slots: &[u8]) -> Answer
     ensures { result ≡ assemble_answer disks blocks online slots.now }
 {
-    let refusal = arguments_refusal(disks, blocks, online, slots);
-    if refusal == 0 {
-        from_slots(disks, blocks, online, slots)
-    } else {
-        without_stores(zero(), refusal)
+    match stopped_state(disks, blocks, online, slots) {
+        Ok(state) => done(state),
+        Err(refusal) => refused(zero(), refusal),
     }
 }

@@ -22,19 +22,18 @@ unfolding longest_label
 loop-d-preserved c =
     let l = c.loop-d in
     let a = c.args in (
-      omega arith,
       search rules,
-      slots_next a.s a.slots.now l.slots l.d l.invariant.2 c.write_slot.ensures,
+      slots_next a.s a.slots.now l.slots l.d l.invariant.1 c.write_slot.ensures,
     )
 
 pub returns : goal.returns
 returns c =
     let l = c.loop-d in
-    slots_end c.args.s c.args.slots.now l.slots l.d l.invariant.2 c.requires.1 (omega arith)
+    slots_end c.args.s c.args.slots.now l.slots l.d l.invariant.1 c.requires.1 (omega arith)
 
 pub loop-d-init : goal.loop-d-init
 unfolding ascending longest_label
-loop-d-init c = (omega arith, refl, refl)
+loop-d-init c = (refl, refl)
 
 pub slice_bounds-write_slot-end : goal.slice_bounds-write_slot-end
 unfolding longest_label
