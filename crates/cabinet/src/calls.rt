@@ -7,7 +7,7 @@ ghost use Rattle.cabinet.specs.Sessions.{Formatted};
 use diagnosis::diagnose;
 use membership::{attach, detach, power_off};
 use protocol::{Answer, Call, State};
-use state::without_stores;
+use state::done;
 
 // The paper's fresh, of the crate `formatting`.
 pub fn format(disks: usize, blocks: usize, area: &mut [u8]) -> Answer
@@ -31,7 +31,10 @@ pub fn apply(call: Call, s: State, area: &mut [u8], bytes: &[u8], output: &mut [
         Call::Detach { disk } => detach(s, disk),
         Call::Attach { disk } => attach(s, disk, bytes),
         Call::PowerOff => power_off(s),
-        Call::Diagnose { stage, disk } => without_stores(s, diagnose(s, stage, disk).refusal),
+        Call::Diagnose { stage, disk } => Answer {
+            refusal: diagnose(s, stage, disk).refusal,
+            ..done(s)
+        },
         Call::Swap { disk, budget } => swapping::swap(s, area, disk, budget),
     }
 }

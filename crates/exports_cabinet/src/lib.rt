@@ -1,6 +1,6 @@
 // The calls on the cabinet itself, for programs in C and Rust: it is made, started and stopped, its disks are lost and
 // return, and it is asked why a disk is not current. `exports_c` exports the functions.
-#![tactic(auto)]
+#![tactic(auto, unfolding(flat::specs::Flat::flat_outcome))]
 
 ghost use Rattle.std.specs.Prelude.{◌≡◌, List, ℕ};
 ghost use Rattle.protocol.specs.Calls.{format_outcome, restart_outcome, detach_outcome, attach_outcome};
@@ -8,7 +8,7 @@ ghost use Rattle.protocol.specs.Calls.{power_off_outcome};
 ghost use Rattle.protocol.specs.Diagnosis.{diagnosis};
 ghost use Rattle.flat.specs.Flat.{opened, flat_outcome, flat_diagnosis};
 
-use flat::{FlatAnswer, FlatDiagnosis, FlatState, flat_answer, flat_diagnosis, opened};
+use flat::{FlatAnswer, FlatDiagnosis, FlatState};
 
 #[unsafe(no_mangle)]
 pub extern "C" fn cabinet_format(disks: usize, blocks: usize, area: &mut [u8]) -> FlatAnswer
@@ -16,7 +16,7 @@ pub extern "C" fn cabinet_format(disks: usize, blocks: usize, area: &mut [u8]) -
         → record { answer = result; area = area.new; output = output }
         ≡ flat_outcome (format_outcome area.old output disks blocks) }
 {
-    flat_answer(cabinet::format(disks, blocks, area))
+    FlatAnswer::from(cabinet::format(disks, blocks, area))
 }
 
 #[unsafe(no_mangle)]
@@ -25,7 +25,7 @@ pub extern "C" fn cabinet_restart(state: FlatState, area: &mut [u8], budget: u16
         → record { answer = result; area = area.new; output = output }
         ≡ flat_outcome (restart_outcome (opened state) area.old output budget) }
 {
-    flat_answer(cabinet::restart(opened(state), area, budget))
+    FlatAnswer::from(cabinet::restart(state.into(), area, budget))
 }
 
 #[unsafe(no_mangle)]
@@ -34,7 +34,7 @@ pub extern "C" fn cabinet_detach(state: FlatState, disk: usize) -> FlatAnswer
         → record { answer = result; area = area; output = output }
         ≡ flat_outcome (detach_outcome (opened state) area output disk) }
 {
-    flat_answer(cabinet::detach(opened(state), disk))
+    FlatAnswer::from(cabinet::detach(state.into(), disk))
 }
 
 #[unsafe(no_mangle)]
@@ -43,7 +43,7 @@ pub extern "C" fn cabinet_attach(state: FlatState, disk: usize, shown: &[u8]) ->
         → record { answer = result; area = area; output = output }
         ≡ flat_outcome (attach_outcome (opened state) area output disk shown.now) }
 {
-    flat_answer(cabinet::attach(opened(state), disk, shown))
+    FlatAnswer::from(cabinet::attach(state.into(), disk, shown))
 }
 
 #[unsafe(no_mangle)]
@@ -52,7 +52,7 @@ pub extern "C" fn cabinet_power_off(state: FlatState) -> FlatAnswer
         → record { answer = result; area = area; output = output }
         ≡ flat_outcome (power_off_outcome (opened state) area output) }
 {
-    flat_answer(cabinet::power_off(opened(state)))
+    FlatAnswer::from(cabinet::power_off(state.into()))
 }
 
 // The caller keeps the state that it gave: "It changes nothing."
@@ -60,5 +60,5 @@ pub extern "C" fn cabinet_power_off(state: FlatState) -> FlatAnswer
 pub extern "C" fn cabinet_diagnose(state: FlatState, stage: usize, disk: usize) -> FlatDiagnosis
     ensures { result ≡ flat_diagnosis (diagnosis (opened state) stage disk) }
 {
-    flat_diagnosis(cabinet::diagnose(opened(state), stage, disk))
+    FlatDiagnosis::from(cabinet::diagnose(state.into(), stage, disk))
 }

@@ -1,6 +1,6 @@
 // Document 01's calls on labels, for programs in C and Rust: a cabinet's are saved to slots and assembled from them, a
 // single one is read and written. `exports_c` exports the functions.
-#![tactic(auto)]
+#![tactic(auto, unfolding(flat::specs::Flat::flat_outcome))]
 
 ghost use Rattle.std.specs.Prelude.{◌≡◌, List, ℕ, length};
 ghost use Rattle.label.specs.Reading.{reading};
@@ -9,7 +9,7 @@ ghost use Rattle.protocol.specs.Geometry.{label_form};
 ghost use Rattle.protocol.specs.Saving.{save_outcome, assemble_answer};
 ghost use Rattle.flat.specs.Flat.{opened, flat_answer, flat_outcome};
 
-use flat::{FlatAnswer, FlatState, flat_answer, opened};
+use flat::{FlatAnswer, FlatState};
 use label::{Label, Reading, Written};
 use label_forms::label_form;
 use sets::Mask;
@@ -20,7 +20,7 @@ pub extern "C" fn cabinet_save(state: FlatState, slots: &mut [u8]) -> FlatAnswer
         → record { answer = result; area = area; output = slots.new }
         ≡ flat_outcome (save_outcome (opened state) area slots.old) }
 {
-    flat_answer(cabinet::save(opened(state), slots))
+    FlatAnswer::from(cabinet::save(state.into(), slots))
 }
 
 #[unsafe(no_mangle)]
@@ -32,14 +32,14 @@ pub extern "C" fn cabinet_assemble(
 ) -> FlatAnswer
     ensures { result ≡ flat_answer (assemble_answer disks blocks online slots.now) }
 {
-    flat_answer(cabinet::assemble(disks, blocks, online, slots))
+    FlatAnswer::from(cabinet::assemble(disks, blocks, online, slots))
 }
 
 #[unsafe(no_mangle)]
 pub extern "C" fn cabinet_read_label(bytes: &[u8]) -> Reading
     ensures { result ≡ reading label_form bytes.now }
 {
-    label_form::read(bytes)
+    Reading::from(label_form::read(bytes))
 }
 
 #[unsafe(no_mangle)]
@@ -52,5 +52,5 @@ pub extern "C" fn cabinet_write_label(
     ensures answer { result ≡ written label_form number disks label (length output.old) }
     ensures bytes { output.new ≡ written_bytes label_form number disks label output.old }
 {
-    label_form::write(output, number, disks, label)
+    Written::from(label_form::write(output, number, disks, label))
 }

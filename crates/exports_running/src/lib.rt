@@ -1,12 +1,12 @@
 // The calls on a running cabinet, for programs in C and Rust: blocks are read and written, a disk joins or is swapped
 // for a blank one, dirty bits are cleared. `exports_c` exports the functions.
-#![tactic(auto)]
+#![tactic(auto, unfolding(flat::specs::Flat::flat_outcome))]
 
 ghost use Rattle.std.specs.Prelude.{◌≡◌, List, ℕ};
 ghost use Rattle.protocol.specs.Calls.{read_outcome, write_outcome, join_outcome, swap_outcome, clean_outcome};
 ghost use Rattle.flat.specs.Flat.{opened, flat_outcome};
 
-use flat::{FlatAnswer, FlatState, flat_answer, opened};
+use flat::{FlatAnswer, FlatState};
 
 #[unsafe(no_mangle)]
 pub extern "C" fn cabinet_read(
@@ -19,7 +19,7 @@ pub extern "C" fn cabinet_read(
     ensures { record { answer = result; area = area.now; output = output.new }
         ≡ flat_outcome (read_outcome (opened state) area.now output.old block budget) }
 {
-    flat_answer(cabinet::read(opened(state), area, block, output, budget))
+    FlatAnswer::from(cabinet::read(state.into(), area, block, output, budget))
 }
 
 #[unsafe(no_mangle)]
@@ -34,7 +34,7 @@ pub extern "C" fn cabinet_write(
         → record { answer = result; area = area.new; output = output }
         ≡ flat_outcome (write_outcome (opened state) area.old output block bytes.now budget) }
 {
-    flat_answer(cabinet::write(opened(state), area, block, bytes, budget))
+    FlatAnswer::from(cabinet::write(state.into(), area, block, bytes, budget))
 }
 
 #[unsafe(no_mangle)]
@@ -48,7 +48,7 @@ pub extern "C" fn cabinet_join(
         → record { answer = result; area = area.new; output = output }
         ≡ flat_outcome (join_outcome (opened state) area.old output disk budget) }
 {
-    flat_answer(cabinet::join(opened(state), area, disk, budget))
+    FlatAnswer::from(cabinet::join(state.into(), area, disk, budget))
 }
 
 #[unsafe(no_mangle)]
@@ -62,7 +62,7 @@ pub extern "C" fn cabinet_swap(
         → record { answer = result; area = area.new; output = output }
         ≡ flat_outcome (swap_outcome (opened state) area.old output disk budget) }
 {
-    flat_answer(cabinet::swap(opened(state), area, disk, budget))
+    FlatAnswer::from(cabinet::swap(state.into(), area, disk, budget))
 }
 
 #[unsafe(no_mangle)]
@@ -71,5 +71,5 @@ pub extern "C" fn cabinet_clean(state: FlatState, budget: u16) -> FlatAnswer
         → record { answer = result; area = area; output = output }
         ≡ flat_outcome (clean_outcome (opened state) area output budget) }
 {
-    flat_answer(cabinet::clean(opened(state), budget))
+    FlatAnswer::from(cabinet::clean(state.into(), budget))
 }

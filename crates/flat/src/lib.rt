@@ -42,6 +42,7 @@ pub struct FlatDiagnosis {
     pub set: Mask,
 }
 
+#[tactic(auto, unfolding(crate::specs::Flat::power_of))]
 fn power_of(current: Mask) -> Power
     ensures { result ≡ power_of current }
 {
@@ -52,41 +53,48 @@ fn power_of(current: Mask) -> Power
     }
 }
 
-pub fn opened(f: FlatState) -> State
-    ensures { result ≡ opened f }
-{
-    let labels = f.labels;
-    State {
-        disks: f.disks,
-        blocks: f.blocks,
-        labels: labels,
-        online: f.online,
-        power: power_of(f.current),
+impl From<FlatState> for State {
+    ghost from_gives = { λ flat state. state ≡ opened flat };
+
+    #[tactic(auto, unfolding(crate::specs::Flat::opened))]
+    fn from(flat: FlatState) -> State {
+        let labels = flat.labels;
+        State {
+            disks: flat.disks,
+            blocks: flat.blocks,
+            labels,
+            online: flat.online,
+            power: power_of(flat.current),
+        }
     }
 }
 
-fn flat_state(s: State) -> FlatState
-    ensures { result ≡ flat_state s }
-{
-    let labels = s.labels;
-    let power = s.power;
-    FlatState {
-        labels: labels,
-        disks: s.disks,
-        blocks: s.blocks,
-        online: s.online,
-        current: state::current(power),
+impl From<State> for FlatState {
+    ghost from_gives = { λ state flat. flat ≡ flat_state state };
+
+    #[tactic(auto, unfolding(crate::specs::Flat::flat_state))]
+    fn from(state: State) -> FlatState {
+        let labels = state.labels;
+        FlatState {
+            labels,
+            disks: state.disks,
+            blocks: state.blocks,
+            online: state.online,
+            current: state::current(state.power),
+        }
     }
 }
 
-pub fn flat_answer(answer: Answer) -> FlatAnswer
-    ensures { result ≡ flat_answer answer }
-{
-    let s = answer.state;
-    FlatAnswer {
-        state: flat_state(s),
-        stores: answer.stores,
-        refusal: answer.refusal,
+impl From<Answer> for FlatAnswer {
+    ghost from_gives = { λ answer flat. flat ≡ flat_answer answer };
+
+    #[tactic(auto, unfolding(crate::specs::Flat::flat_answer))]
+    fn from(answer: Answer) -> FlatAnswer {
+        FlatAnswer {
+            state: FlatState::from(answer.state),
+            stores: answer.stores,
+            refusal: answer.refusal,
+        }
     }
 }
 
@@ -107,23 +115,21 @@ fn reason_disk(reason: Reason) -> usize
     ensures { result ≡ reason_disk reason }
 {
     match reason {
-        Reason::NoReason => 0,
-        Reason::Empty => 0,
-        Reason::OutOfReach(d) => d,
-        Reason::Disagrees(d) => d,
-        Reason::NoneProposes => 0,
-        Reason::IsCandidate => 0,
+        Reason::OutOfReach(d) | Reason::Disagrees(d) => d,
+        Reason::NoReason | Reason::Empty | Reason::NoneProposes | Reason::IsCandidate => 0,
     }
 }
 
-pub fn flat_diagnosis(diagnosis: Diagnosis) -> FlatDiagnosis
-    ensures { result ≡ flat_diagnosis diagnosis }
-{
-    let reason = diagnosis.reason;
-    FlatDiagnosis {
-        disk: reason_disk(reason),
-        refusal: diagnosis.refusal,
-        reason: reason_number(reason),
-        set: diagnosis.set,
+impl From<Diagnosis> for FlatDiagnosis {
+    ghost from_gives = { λ diagnosis flat. flat ≡ flat_diagnosis diagnosis };
+
+    #[tactic(auto, unfolding(crate::specs::Flat::flat_diagnosis))]
+    fn from(diagnosis: Diagnosis) -> FlatDiagnosis {
+        FlatDiagnosis {
+            disk: reason_disk(diagnosis.reason),
+            refusal: diagnosis.refusal,
+            reason: reason_number(diagnosis.reason),
+            set: diagnosis.set,
+        }
     }
 }

@@ -41,7 +41,7 @@ unfolding perform
 returns-in-Diagnose c =
     rw (
       c.in-Diagnose.is,
-      c.without_stores.ensures,
+      c.done.ensures,
       c.diagnose.ensures,
     )
     (sym (changes_nothing _ _ _ _ _))

@@ -1,5 +1,0 @@
-use Rattle.flat.proofs.Boundary.{flat_outcome_lem}
-use Rattle.exports_cabinet.proofs.cabinet_format.Goals as goal
-
-pub returns : goal.returns
-returns c = λ output. flat_outcome_lem c.flat_answer.ensures (c.format.ensures output)
