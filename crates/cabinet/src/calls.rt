@@ -18,6 +18,7 @@ pub fn format(disks: usize, blocks: usize, area: &mut [u8]) -> Answer
 
 // Carries out the call. A buffer that it does not take, it leaves. Of a diagnosis it gives the number: what is said of
 // the disk, `diagnose` says.
+#[tactic(auto, unfolding(protocol::specs::History::perform), using(protocol::proofs::Diagnoses::changes_nothing))]
 pub fn apply(call: Call, s: State, area: &mut [u8], bytes: &[u8], output: &mut [u8]) -> Answer
     ensures { yields result area.new output.new
         ≡ perform call bytes.now output.old (record { state = s; area = area.old }) }

@@ -26,13 +26,14 @@ fn diagnosed(state: FlatState, refusal: u8) -> FlatAnswer
     ensures { result ≡ record { state = state; stores = 0; refusal = refusal } }
 {
     FlatAnswer {
-        state: state,
+        state,
         stores: 0,
-        refusal: refusal,
+        refusal,
     }
 }
 
 // Makes the call. A buffer that it does not take, it leaves.
+#[tactic(auto, unfolding(protocol::specs::History::perform), using(flat::proofs::Boundary::diagnosis_is_call))]
 pub fn apply(
     call: Call,
     state: FlatState,
