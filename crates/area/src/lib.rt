@@ -77,8 +77,8 @@ pub fn from_slice(bytes: &[u8]) -> [u8; BLOCK_SIZE]
     <[u8; BLOCK_SIZE]>::try_from(bytes).unwrap()
 }
 
-// The bytes to an output of one block. A loop, since a block took more than twice as long by `copy_from_slice`, which is
-// a call that is not inlined.
+// The bytes to an output of one block. A loop, since a block took more than twice as long by `copy_from_slice`: that is
+// a call which is not inlined.
 pub fn to_slice(output: &mut [u8], bytes: [u8; BLOCK_SIZE])
     requires { length output.old ≡ block_size }
     ensures { output.new ≡ bytes }

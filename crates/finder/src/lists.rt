@@ -18,8 +18,8 @@ impl View {
         self.labels[..d].iter().any(|l| x == stage.tried(*l))
     }
 
-    // "list for each stage at most n sets to test": those of the disks, ascending, each once. By the `min` compiled code
-    // knows that there are no more than eight, and the disk in each iteration.
+    // "list for each stage at most n sets to test": those of the disks, ascending, each once. By the `min` compiled
+    // code knows that there are no more than eight, and the disk in each iteration.
     #[tactic(auto, unfolding(protocol::specs::Finder::shortlist, protocol::specs::Loops::ascending))]
     pub(crate) fn shortlist(&self, stage: Stage) -> SetList
         ensures { listed result ≡ shortlist (stage_of stage) self.now.disks self.now.labels }
