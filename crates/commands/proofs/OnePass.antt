@@ -47,10 +47,6 @@ few line =
 
 -- ---- the loop
 
-pub first_step : (line : List ℕ) → initial_scan ≡ scanned initial_scan (take 0 line)
-unfolding scanned
-first_step line = refl
-
 pub next_step : (line : List ℕ) (i : ℕ) (s next : Scan) → i < length line → s ≡ scanned initial_scan (take i line)
     → next ≡ stepped s (get_or line i 0) → next ≡ scanned initial_scan (take (i + 1) line)
 unfolding scanned

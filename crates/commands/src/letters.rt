@@ -12,86 +12,93 @@ fn plain(call: Call) -> Command
     ensures { result ≡ Command.Perform call (Loan.Block 0) }
 {
     Command::Perform {
-        call: call,
+        call,
         loan: Loan::Block(0),
     }
 }
 
+#[tactic(auto, unfolding(crate::specs::Commands::command_with))]
 fn with_none(letter: u8) -> Command
     ensures { result ≡ command_with letter [] }
 {
-    if letter == b'c' {
-        return plain(Call::PowerOff);
-    }
-    Command::Bad
-}
-
-fn with_one(letter: u8, a: u16) -> Command
-    ensures { result ≡ command_with letter (a ∷ []) }
-{
     match letter {
-        b'x' => plain(Call::Detach { disk: a as usize }),
-        b'r' => Command::Perform {
-            call: Call::Attach { disk: a as usize },
-            loan: Loan::StoredLabel(a as usize),
-        },
-        b'q' => plain(Call::Clean { budget: a }),
-        b's' => plain(Call::Restart { budget: a }),
+        b'c' => plain(Call::PowerOff),
         _ => Command::Bad,
     }
 }
 
-fn with_two(letter: u8, a: u16, b: u16) -> Command
-    ensures { result ≡ command_with letter (a ∷ b ∷ []) }
+#[tactic(auto, unfolding(crate::specs::Commands::command_with))]
+fn with_one(letter: u8, number: u16) -> Command
+    ensures { result ≡ command_with letter (number ∷ []) }
+{
+    match letter {
+        b'x' => plain(Call::Detach {
+            disk: number as usize,
+        }),
+        b'r' => Command::Perform {
+            call: Call::Attach {
+                disk: number as usize,
+            },
+            loan: Loan::StoredLabel(number as usize),
+        },
+        b'q' => plain(Call::Clean { budget: number }),
+        b's' => plain(Call::Restart { budget: number }),
+        _ => Command::Bad,
+    }
+}
+
+#[tactic(auto, unfolding(crate::specs::Commands::command_with))]
+fn with_two(letter: u8, first: u16, second: u16) -> Command
+    ensures { result ≡ command_with letter (first ∷ second ∷ []) }
 {
     match letter {
         b'f' => Command::Format {
-            disks: a,
-            blocks: b,
+            disks: first,
+            blocks: second,
         },
         b'j' => plain(Call::Join {
-            disk: a as usize,
-            budget: b,
+            disk: first as usize,
+            budget: second,
         }),
         b'g' => plain(Call::Read {
-            block: a as usize,
-            budget: b,
+            block: first as usize,
+            budget: second,
         }),
         _ => Command::Bad,
     }
 }
 
 // "`w k v p` write a block of 64 bytes v (at most 255)"
-fn with_three(letter: u8, k: u16, v: u16, p: u16) -> Command
-    ensures { result ≡ command_with letter (k ∷ v ∷ p ∷ []) }
+#[tactic(auto, unfolding(crate::specs::Commands::command_with))]
+fn with_three(letter: u8, block: u16, value: u16, budget: u16) -> Command
+    ensures { result ≡ command_with letter (block ∷ value ∷ budget ∷ []) }
 {
-    if letter == b'w' {
-        if v <= 255 {
-            return Command::Perform {
-                call: Call::Write {
-                    block: k as usize,
-                    budget: p,
-                },
-                loan: Loan::Block(v as u8),
-            };
-        }
+    match (letter, u8::try_from(value)) {
+        (b'w', Ok(byte)) => Command::Perform {
+            call: Call::Write {
+                block: block as usize,
+                budget,
+            },
+            loan: Loan::Block(byte),
+        },
+        _ => Command::Bad,
     }
-    Command::Bad
 }
 
 // The command of a line whose last word has ended.
-pub fn decode(s: Scan) -> Command
-    ensures { result ≡ decoded s }
+#[tactic(auto, unfolding(crate::specs::Scanning::decoded))]
+pub fn decode(scan: Scan) -> Command
+    ensures { result ≡ decoded scan }
 {
-    if !s.valid {
-        return Command::Bad;
-    }
-    let words = s.words;
-    match words {
-        1 => with_none(s.letter),
-        2 => with_one(s.letter, s.last),
-        3 => with_two(s.letter, s.second, s.last),
-        4 => with_three(s.letter, s.third, s.second, s.last),
-        _ => Command::Bad,
+    if scan.valid {
+        match scan.words {
+            1 => with_none(scan.letter),
+            2 => with_one(scan.letter, scan.last),
+            3 => with_two(scan.letter, scan.second, scan.last),
+            4 => with_three(scan.letter, scan.third, scan.second, scan.last),
+            _ => Command::Bad,
+        }
+    } else {
+        Command::Bad
     }
 }

@@ -6,7 +6,7 @@ ghost use Rattle.commands.specs.Commands.{command_of};
 
 use letters::decode;
 use protocol::Call;
-use scanner::{end_word, scan_line};
+use scanner::Scan;
 
 mod letters;
 mod scanner;
@@ -22,7 +22,8 @@ pub enum Loan {
 }
 
 // A fresh, with its n and b; a call of the list, and what is lent to it; or any other line. `command_number` of
-// specs/Commands.antt says which number each gives by itself.
+// specs/Commands.antt says which number each gives by itself. `Bad` is no `None` beside the others: it is executed and
+// answered as they are, and `ProgramMeetsDemand3` tells lines apart by the variants.
 #[derive(Clone, Copy)]
 pub enum Command {
     Format { disks: u16, blocks: u16 },
@@ -31,11 +32,12 @@ pub enum Command {
 }
 
 // The command that a line is, without its line feed.
+#[tactic(auto, using(crate::proofs::Decoding::one_pass_decodes), unfolding(crate::specs::Commands::command_of))]
 pub fn parse(line: &[u8]) -> Command
     ensures { result ≡ command_of line.now }
 {
     if LINE_MOST < line.len() {
         return Command::Bad;
     }
-    decode(end_word(scan_line(line)))
+    decode(Scan::of(line).end_word())
 }

@@ -1,6 +1,5 @@
 // A line read once, byte by byte.
-ghost use Rattle.std.specs.Prelude.{◌≡◌, ◌-◌, ◌≤◌, length};
-ghost use Rattle.decimal.specs.Numerals.{is_digit};
+ghost use Rattle.std.specs.Prelude.{◌≡◌, ◌≤◌, length};
 ghost use Rattle.commands.specs.Commands.{line_most};
 ghost use Rattle.commands.specs.Scanning.{initial_scan, grown, fits, within, word_ended};
 ghost use Rattle.commands.specs.Scanning.{letter_with, byte_read, stepped, scanned};
@@ -21,12 +20,11 @@ pub struct Scan {
 }
 
 // "at most 65,535"
-const NUMBER_MOST: u32 = 65535;
+const NUMBER_MOST: u32 = u16::MAX as u32;
 
-fn begin() -> Scan
-    ensures { result ≡ initial_scan }
-{
-    Scan {
+impl Scan {
+    // Before the first byte.
+    const START: Self = Scan {
         letter: 0,
         words: 0,
         third: 0,
@@ -35,113 +33,105 @@ fn begin() -> Scan
         bytes: 0,
         value: 0,
         valid: true,
+    };
+
+    // A line's bytes; its last word has not ended.
+    #[tactic(auto, unfolding(crate::specs::Scanning::initial_scan, crate::specs::Scanning::scanned))]
+    pub fn of(line: &[u8]) -> Self
+        requires { length line.now ≤ line_most }
+        ensures value { result ≡ scanned initial_scan line.now }
+        ensures bounded { result.words ≤ line_most }
+    {
+        let mut scan = Self::START;
+        for byte in line {
+            scan = scan.step(*byte);
+        }
+        scan
     }
-}
 
-fn is_digit(x: u8) -> bool
-    ensures { result ≡ is_digit x }
-{
-    (b'0' <= x) & (x <= b'9')
-}
-
-// What a byte stands for as a digit.
-fn digit_value(x: u8) -> u32
-    ensures { result ≡ x - 48 }
-{
-    if x < b'0' {
-        return 0;
+    #[tactic(auto, unfolding(crate::specs::Scanning::stepped))]
+    fn step(self, byte: u8) -> Self
+        requires { (self.words ≤ line_most) × (self.bytes ≤ line_most) }
+        ensures { result ≡ stepped self byte }
+    {
+        if byte == b' ' {
+            self.end_word()
+        } else {
+            self.read_byte(byte)
+        }
     }
-    (x - b'0') as u32
-}
 
-// A value with one digit more. One that is too large already stays as it is, so that no line makes it overflow.
-fn grow(value: u32, x: u8) -> u32
-    ensures { result ≡ grown value x }
-{
-    if NUMBER_MOST < value {
-        return value;
+    #[tactic(auto, unfolding(crate::specs::Scanning::word_ended))]
+    pub fn end_word(self) -> Self
+        requires { self.words ≤ line_most }
+        ensures { result ≡ word_ended self }
+    {
+        Scan {
+            letter: self.letter,
+            words: self.words + 1,
+            third: self.second,
+            second: self.last,
+            last: self.number(),
+            bytes: 0,
+            value: 0,
+            valid: self.valid && self.fits(),
+        }
     }
-    value * 10 + digit_value(x)
-}
 
-fn within(value: u32) -> u16
-    ensures { result ≡ within value }
-{
-    if NUMBER_MOST < value {
-        return 0;
+    #[tactic(auto, unfolding(crate::specs::Scanning::byte_read, decimal::specs::Numerals::is_digit))]
+    fn read_byte(self, byte: u8) -> Self
+        requires { self.bytes ≤ line_most }
+        ensures { result ≡ byte_read self byte }
+    {
+        Scan {
+            letter: self.letter_with(byte),
+            words: self.words,
+            third: self.third,
+            second: self.second,
+            last: self.last,
+            bytes: self.bytes + 1,
+            value: self.value_with(byte),
+            valid: self.valid && (self.words == 0 || byte.is_ascii_digit()),
+        }
     }
-    value as u16
-}
 
-// Whether the word under way may end here: the first is one letter, the others are numbers.
-fn fits(s: Scan) -> bool
-    ensures { result ≡ fits s }
-{
-    if s.words == 0 {
-        return s.bytes == 1;
+    // The first word's byte; of several, the last, and then the line is not valid.
+    #[tactic(auto, unfolding(crate::specs::Scanning::letter_with))]
+    fn letter_with(self, byte: u8) -> u8
+        ensures { result ≡ letter_with self byte }
+    {
+        if self.words == 0 { byte } else { self.letter }
     }
-    (0 < s.bytes) & (s.bytes <= 5) & (s.value <= NUMBER_MOST)
-}
 
-pub fn end_word(s: Scan) -> Scan
-    requires { s.words ≤ line_most }
-    ensures { result ≡ word_ended s }
-{
-    Scan {
-        letter: s.letter,
-        words: s.words + 1,
-        third: s.second,
-        second: s.last,
-        last: within(s.value),
-        bytes: 0,
-        value: 0,
-        valid: s.valid & fits(s),
+    // The value with one digit more. One that is too large already stays as it is, so that no line makes it overflow.
+    #[tactic(auto, unfolding(crate::specs::Scanning::grown))]
+    fn value_with(self, byte: u8) -> u32
+        ensures { result ≡ grown self.value byte }
+    {
+        if self.value > NUMBER_MOST {
+            self.value
+        } else {
+            self.value * 10 + u32::from(byte.saturating_sub(b'0'))
+        }
     }
-}
 
-// The first word's byte; of several, the last, and then the line is not valid.
-fn letter_with(s: Scan, x: u8) -> u8
-    ensures { result ≡ letter_with s x }
-{
-    if s.words == 0 { x } else { s.letter }
-}
-
-fn read_byte(s: Scan, x: u8) -> Scan
-    requires { s.bytes ≤ line_most }
-    ensures { result ≡ byte_read s x }
-{
-    Scan {
-        letter: letter_with(s, x),
-        words: s.words,
-        third: s.third,
-        second: s.second,
-        last: s.last,
-        bytes: s.bytes + 1,
-        value: grow(s.value, x),
-        valid: s.valid & ((s.words == 0) | is_digit(x)),
+    // The word under way as a number: 0 where it is too large, and then the line is not valid.
+    #[tactic(auto, unfolding(crate::specs::Scanning::within))]
+    fn number(self) -> u16
+        ensures { result ≡ within self.value }
+    {
+        u16::try_from(self.value).unwrap_or(0)
     }
-}
 
-fn step(s: Scan, x: u8) -> Scan
-    requires { (s.words ≤ line_most) × (s.bytes ≤ line_most) }
-    ensures { result ≡ stepped s x }
-{
-    if x == b' ' {
-        return end_word(s);
+    // Whether the word under way may end here: the first is one letter, the others are numbers.
+    #[tactic(auto, unfolding(crate::specs::Scanning::fits))]
+    fn fits(self) -> bool
+        ensures { result ≡ fits self }
+    {
+        if self.words == 0 {
+            self.bytes == 1
+        } else {
+            0 < self.bytes && self.bytes <= 5 && self.value <= NUMBER_MOST
+        }
     }
-    read_byte(s, x)
-}
-
-pub fn scan_line(line: &[u8]) -> Scan
-    requires { length line.now ≤ line_most }
-    ensures value { result ≡ scanned initial_scan line.now }
-    ensures bounded { result.words ≤ line_most }
-{
-    let mut s = begin();
-    let mut i = 0;
-    while i < line.len() {
-        s = step(s, line[i]);
-        i += 1;
-    }
-    s
 }
