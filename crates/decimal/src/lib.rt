@@ -1,4 +1,7 @@
 // Numbers as decimal numerals.
+//
+// Not by `Display`: std promises what a `write!` that gives `Ok` has written, and not that one with room gives `Ok`, so
+// no reply could be promised in a buffer. And nothing of the product allocates, which rules out `format!`.
 #![tactic(auto)]
 
 ghost use Rattle.std.specs.Prelude.{◌+◌, ◌≤◌, length};
@@ -6,6 +9,7 @@ ghost use Rattle.buffers.specs.Buffers.{Stored};
 ghost use Rattle.decimal.specs.Numerals.{numeral};
 
 // Stores the number's numeral at a place, and gives the place behind it.
+#[tactic(auto, using(crate::proofs::Putting::putting))]
 pub fn put(out: &mut [u8], at: usize, n: u16) -> usize
     requires { at + length (numeral n) ≤ length out.old }
     ensures { Stored at (numeral n) out.old result out.new }

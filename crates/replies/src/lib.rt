@@ -1,4 +1,4 @@
-// The line that answers a line of the cabinet program.
+// The line that answers a line of the cabinet program. `decimal` says why no `Display` writes it.
 #![tactic(auto)]
 
 ghost use Rattle.std.specs.Prelude.{◌+◌, ◌≤◌, length};
@@ -21,6 +21,7 @@ pub struct Reply {
 pub const REPLY_MOST: usize = 30;
 
 // Stores a number and the byte that ends it, and gives the place behind them.
+#[tactic(auto, using(decimal::proofs::Numerals::short))]
 fn put_field(out: &mut [u8], at: usize, n: u16, end: u8) -> usize
     requires { at + field_most ≤ length out.old }
     ensures stored { Stored at (field n end) out.old result out.new }

@@ -6,9 +6,9 @@ use Rattle.buffers.proofs.Splicing.{stored_after}
 use Rattle.replies.specs.Replies.{reply_line, field}
 use Rattle.replies.proofs.put_reply.Goals as goal
 
-pub returns : goal.returns
+pub returns-clause-stored : goal.returns-clause-stored
 unfolding reply_line
-returns c =
+returns-clause-stored c =
     let at = c.args.at in
     let reply = c.args.reply in
     let old = c.args.out.now in
@@ -24,4 +24,4 @@ returns c =
     let online = stored_after old three (field reply.online 32) at room current
     (rw c.number-2.ensures at c.put_field-byte.ensures.stored) in
     let byte = stored_after old four (field reply.byte 10) at room online c.put_field.ensures.stored in
-    record { stored = simp append_assoc at byte; bounded = omega arith }
+    simp append_assoc at byte
