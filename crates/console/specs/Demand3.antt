@@ -4,6 +4,7 @@ use mathlib.Core.List.{List, flatten}
 use Rattle.protocol.specs.Geometry.{most_disks, most_blocks, area_size}
 use Rattle.shell.specs.Dialogue.{dialogue, lines, initial, after_blocks}
 use Rattle.program.specs.Demand3.{Keeps}
+use Rattle.program.specs.Reads.{count_read}
 use Rattle.console.specs.declared.Served.{Served}
 use Rattle.console.specs.Runs.{Ran}
 
@@ -16,5 +17,5 @@ pub record Meets (memory₀ : List ℕ) (last : Served) (line memory : List ℕ)
 -- Of every run in a memory as `largest_area` gives it that the end of the input ended.
 abbrev pub RunsMeetDemand3 : Type 0
 RunsMeetDemand3 = (memory₀ : List ℕ) → length memory₀ ≡ area_size most_disks most_blocks
-    → (last : Served) (block line memory : List ℕ) → Ran memory₀ last block line memory → last.got ≡ pos 0
+    → (last : Served) (block line memory : List ℕ) → Ran memory₀ last block line memory → count_read last.got ≡ pos 0
     → Meets memory₀ last line memory

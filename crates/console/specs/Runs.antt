@@ -2,7 +2,7 @@
 use Rattle.std.specs.Prelude.{◌≡◌, ◌⊎◌, false, List, [], ◌∷◌, ◌++◌, ℕ, ◌+◌, ◌-◌, ◌^◌, ℤ, length}
 use Rattle.shell.specs.declared.Shell.{Shell}
 use Rattle.shell.specs.Dialogue.{Dialogue, dialogue, initial}
-use Rattle.program.specs.Reads.{after_read, printed_read, goes_on}
+use Rattle.program.specs.Reads.{count_read, after_read, printed_read, goes_on}
 use Rattle.program.specs.Rounds.{Round, after_rounds, AllGoOn}
 use Rattle.console.specs.declared.Served.{Served}
 
@@ -19,7 +19,7 @@ abbrev pub most_reads : ℕ
 most_reads = 2 ^ 64 - 1
 
 abbrev pub round_of : Served → List ℕ → Round
-round_of last block = record { got = last.got; block = block; written = last.written }
+round_of last block = record { got = count_read last.got; block = block; written = last.written }
 
 -- So many reads were made: each but the last is followed by another, and what is left is what they leave, one after the
 -- other. The last is the one that is handed back, with the block that it filled.
@@ -33,11 +33,11 @@ pub record Made (reads : ℕ) (memory₀ : List ℕ) (last : Served) (block line
 pub record Ran (memory₀ : List ℕ) (last : Served) (block line memory : List ℕ) : Type 0 where
   pub reads : ℕ
   pub made : Made reads memory₀ last block line memory
-  pub ends : (goes_on last.got last.written ≡ false) ⊎ (reads ≡ most_reads)
+  pub ends : (goes_on (count_read last.got) last.written ≡ false) ⊎ (reads ≡ most_reads)
 
 -- The reads that follow one: where none is to follow, none is made, and nothing changes.
 pub record Followed (first : Served) (block₀ line₀ memory₀ out₀ : List ℕ)
     (last : Served) (block line memory out : List ℕ) : Type 0 where
-  pub none : goes_on first.got first.written ≡ false
+  pub none : goes_on (count_read first.got) first.written ≡ false
       → (last ≡ first) × (block ≡ block₀) × (line ≡ line₀) × (memory ≡ memory₀) × (out ≡ out₀)
   pub some : (start : List ℕ) → Made 1 start first block₀ line₀ memory₀ → Ran start last block line memory

@@ -1,12 +1,11 @@
 // The cabinet program: it reads a block of input, has the shell serve it, and writes the replies.
 #![tactic(auto)]
 
-ghost use Rattle.std.specs.Prelude.{◌≡◌, ◌≤◌, ◌<◌, ◌^◌, length, pos, negsuc, MatchResult};
-ghost use Rattle.std.specs.Result.{ForOk};
+ghost use Rattle.std.specs.Prelude.{◌≡◌, ◌≤◌, length, Some, None, MatchResult};
 ghost use Rattle.buffers.specs.Buffers.{splice};
 ghost use Rattle.protocol.specs.Geometry.{most_disks, most_blocks, area_size};
 ghost use Rattle.shell.specs.Dialogue.{line_buffer, dialogue};
-ghost use Rattle.program.specs.Reads.{after_read, printed_read};
+ghost use Rattle.program.specs.Reads.{count_read, after_read, printed_read};
 ghost use Rattle.console.specs.Buffers.{Room};
 ghost use Rattle.console.specs.Runs.{Replies, Followed, Ran};
 
@@ -27,26 +26,23 @@ const OUTPUT: usize = BLOCK * REPLY_MOST;
 // The largest disk area.
 const MEMORY: usize = DISKS * MOST_BLOCKS * BLOCK_SIZE;
 
-// What one read leaves, what it gave, and whether the replies to it were written.
+// What one read leaves, what it gave, and whether the replies were written.
 #[derive(Clone, Copy)]
 struct Served {
     shell: Shell,
-    got: isize,
+    got: Option<usize>,
     written: bool,
 }
 
-// What a read gave, as one number: how many bytes, or -1 for an error.
-fn told(read: io::Result<usize>) -> isize
-    requires { ForOk read (λ n. n < 2 ^ 63) }
-    ensures { MatchResult read (λ n. result ≡ pos n) (λ e. result ≡ negsuc 0) }
+// What a read gave: how many bytes, none at the end of the input, or `None` where it failed.
+fn count_of(read: io::Result<usize>) -> Option<usize>
+    ensures { MatchResult read (λ n. result ≡ Some n) (λ _. result ≡ None) }
 {
-    match read {
-        Ok(count) => count as isize,
-        Err(_) => -1,
-    }
+    read.ok()
 }
 
 // The memory of the program holds the largest disk area.
+#[tactic(auto, unfolding(protocol::specs::Geometry::area_size))]
 fn largest_area() -> [u8; MEMORY]
     ensures { length result ≡ area_size most_disks most_blocks }
 {
@@ -54,19 +50,14 @@ fn largest_area() -> [u8; MEMORY]
 }
 
 // The replies to what came are written.
-fn answer(rt: &HostRuntime, got: isize, h: Shell, said: &[u8]) -> Served
-    requires { Replies got h said.now }
+fn answer(rt: &HostRuntime, got: Option<usize>, h: Shell, said: &[u8]) -> Served
+    requires { Replies (count_read got) h said.now }
     ensures { (result.got ≡ got)
         × (result.shell ≡ record { state = h.state; buffered = h.buffered; used = 0 }) }
 {
-    let state = h.state;
     Served {
-        shell: Shell {
-            state: state,
-            buffered: h.buffered,
-            used: 0,
-        },
-        got: got,
+        shell: Shell { used: 0, ..h },
+        got,
         written: rt.write_all(said).is_ok(),
     }
 }
@@ -82,17 +73,15 @@ fn serve_once(
 ) -> Served
     requires { (h.buffered ≤ line_buffer) × (h.used ≡ 0) × Room block.old line.old out.old }
     ensures dialogue { dialogue result.shell line.new memory.new
-        ≡ after_read result.got block.new (dialogue h line.old memory.old) }
+        ≡ after_read (count_read result.got) block.new (dialogue h line.old memory.old) }
     ensures output { out.new
-        ≡ splice 0 (printed_read result.got block.new (dialogue h line.old memory.old))
+        ≡ splice 0 (printed_read (count_read result.got) block.new (dialogue h line.old memory.old))
         out.old }
     ensures room { (result.shell.buffered ≤ line_buffer) × (result.shell.used ≡ 0) }
 {
-    let mut input = rt.stdin();
-    let got = told(input.read(block));
+    let got = count_of(rt.stdin().read(block));
     let after = program::hear(got, block, h, line, memory, out);
-    let used = after.used;
-    answer(rt, got, after, &out[..used])
+    answer(rt, got, after, &out[..after.used])
 }
 
 // The reads that follow one; none, where none is to follow. Their number only lets the proof see an end: at a read each
@@ -111,15 +100,16 @@ fn read_on(
         result block.new line.new memory.new out.new }
 {
     let mut last = first;
-    let mut reads = u64::MAX - 1;
-    while reads > 0 && goes_on(last.got, last.written) {
-        let h = last.shell;
-        last = serve_once(rt, h, block, line, memory, out);
-        reads -= 1;
+    for _ in 0..u64::MAX - 1 {
+        if !goes_on(last.got, last.written) {
+            break;
+        }
+        last = serve_once(rt, last.shell, block, line, memory, out);
     }
     last
 }
 
+#[tactic(auto, using(crate::proofs::Runs::first_made))]
 fn run(
     rt: &HostRuntime,
     block: &mut [u8],

@@ -1,6 +1,11 @@
 -- What a read of the input gives, what it leaves and prints, and whether another follows.
-use Rattle.std.specs.Prelude.{Bool, false, List, [], ℕ, zero, suc, ℤ, pos, negsuc, take}
+use Rattle.std.specs.Prelude.{Bool, false, List, [], ℕ, zero, suc, ℤ, pos, negsuc, take, Option, Some, None}
 use Rattle.shell.specs.Dialogue.{Dialogue, after_input, printed_input, printed_end, after_end}
+
+-- what a read gave, as one number: how many bytes, or -1 where it failed
+abbrev pub count_read : Option ℕ → ℤ
+count_read None = negsuc 0
+count_read (Some count) = pos count
 
 -- Fewer than 0 bytes are an error, which ends no line, since it may be cut short; none is the end of the input; more
 -- are so many of the block.

@@ -5,13 +5,14 @@ ghost use Rattle.std.specs.Prelude.{◌≡◌, ◌+◌, ◌*◌, ◌≤◌, leng
 ghost use Rattle.buffers.specs.Buffers.{Stored};
 ghost use Rattle.replies.specs.Replies.{reply_most};
 ghost use Rattle.shell.specs.Dialogue.{line_buffer, dialogue};
-ghost use Rattle.program.specs.Reads.{after_read, printed_read, goes_on};
+ghost use Rattle.program.specs.Reads.{count_read, after_read, printed_read, goes_on};
 
 use shell::Shell;
 
-// What a read into the block gave: an error, the end of the input, or so many bytes.
+// What a read into the block gave: so many bytes, none at the end of the input, or `None` where it failed.
+#[tactic(auto, using(buffers::proofs::Splicing::splice_nothing))]
 pub fn hear(
-    got: isize,
+    got: Option<usize>,
     block: &[u8],
     h: Shell,
     line: &mut [u8],
@@ -22,27 +23,23 @@ pub fn hear(
         × (h.used + length block.now * reply_most ≤ length out.old)
         × (h.used + reply_most ≤ length out.old) }
     ensures dialogue { dialogue result line.new memory.new
-        ≡ after_read got block.now (dialogue h line.old memory.old) }
+        ≡ after_read (count_read got) block.now (dialogue h line.old memory.old) }
     ensures output { Stored h.used
-        (printed_read got block.now (dialogue h line.old memory.old))
+        (printed_read (count_read got) block.now (dialogue h line.old memory.old))
         out.old result.used out.new }
     ensures room { (result.buffered ≤ line_buffer) × (result.used ≤ length out.new) }
 {
-    let failed = got < 0;
-    if failed {
-        return h;
+    match got {
+        None => h,
+        Some(0) => shell::finish(h, line, memory, out),
+        Some(count) => shell::serve(&block[..count.min(block.len())], h, line, memory, out),
     }
-    if got < 1 {
-        return shell::finish(h, line, memory, out);
-    }
-    let n = io::count(got, block);
-    shell::serve(&block[..n], h, line, memory, out)
 }
 
 // Whether another read is to follow. An error or the end of the input ends the program; so does a reply that cannot be
 // written, for nobody reads any more.
-pub fn goes_on(got: isize, written: bool) -> bool
-    ensures { result ≡ goes_on got written }
+pub fn goes_on(got: Option<usize>, written: bool) -> bool
+    ensures { result ≡ goes_on (count_read got) written }
 {
-    written & (0 < got)
+    written && got.is_some_and(|count| 0 < count)
 }

@@ -29,9 +29,9 @@ fn at_line_start(state: State, used: usize) -> Shell
     ensures { result ≡ record { state = state; buffered = 0; used = used } }
 {
     Shell {
-        state: state,
+        state,
         buffered: 0,
-        used: used,
+        used,
     }
 }
 
@@ -51,11 +51,9 @@ fn buffer_byte(x: u8, h: Shell, line: &mut [u8]) -> Shell
     let at = h.buffered;
     if at < line.len() {
         line[at] = x;
-        let state = h.state;
         return Shell {
-            state: state,
             buffered: at + 1,
-            used: h.used,
+            ..h
         };
     }
     h
@@ -72,12 +70,11 @@ fn end_line(h: Shell, line: &[u8], memory: &mut [u8], out: &mut [u8]) -> Shell
     ensures room { result.used ≤ h.used + reply_most }
     ensures ended { result.buffered ≡ 0 }
 {
-    let buffered = h.buffered;
-    let s = h.state;
-    let executed = execute(commands::parse(&line[..buffered]), s, memory);
-    let state = executed.state;
-    let reply = executed.reply;
-    at_line_start(state, replies::put_reply(out, h.used, reply))
+    let executed = execute(commands::parse(&line[..h.buffered]), h.state, memory);
+    at_line_start(
+        executed.state,
+        replies::put_reply(out, h.used, executed.reply),
+    )
 }
 
 fn take_byte(x: u8, h: Shell, line: &mut [u8], memory: &mut [u8], out: &mut [u8]) -> Shell
@@ -108,13 +105,11 @@ pub fn serve(block: &[u8], h: Shell, line: &mut [u8], memory: &mut [u8], out: &m
         out.old result.used out.new }
     ensures room { (result.buffered ≤ line_buffer) × (result.used ≤ h.used + length block.now * reply_most) }
 {
-    let mut q = h;
-    let mut i = 0;
-    while i < block.len() {
-        q = take_byte(block[i], q, line, memory, out);
-        i += 1;
+    let mut shell = h;
+    for byte in block {
+        shell = take_byte(*byte, shell, line, memory, out);
     }
-    q
+    shell
 }
 
 // The input has ended, and with it a line that has begun.

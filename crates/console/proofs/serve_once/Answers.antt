@@ -1,4 +1,4 @@
-use mathlib.Core.Path.{refl, ap}
+use mathlib.Core.Path.{ap}
 use native.Mathlib.Omega.{arith}
 use lib.Seq.{length-take-le}
 use Rattle.console.proofs.Handing.{stored_first}
@@ -14,15 +14,4 @@ answer-requires c =
       before = _;
       prints = stored_first _ _ empty heard.ensures.output;
       leaves = ap (λ d. d.machine.state) heard.ensures.dialogue;
-    }
-
-pub returns : goal.returns
-returns c =
-    let heard = c.hear-after in
-    let empty = c.requires.1 in
-    rw (c.answer.ensures.0, c.answer.ensures.1)
-    record {
-      dialogue = heard.ensures.dialogue;
-      output = rw empty at heard.ensures.output.1;
-      room = (heard.ensures.room.0, refl);
     }

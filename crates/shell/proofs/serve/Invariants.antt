@@ -1,21 +1,16 @@
 use mathlib.Core.Path.{◌≡◌}
-use Prim.Native.Nat.{◌+◌, ◌*◌, ◌-◌, ◌≤◌}
-use lib.ListN.{length, take}
+use Prim.Native.Nat.{◌+◌, ◌*◌, ◌≤◌}
+use lib.ListN.{take}
 use Rattle.buffers.specs.Buffers.{Stored}
 use Rattle.replies.specs.Replies.{reply_most}
 use Rattle.shell.specs.Dialogue.{line_buffer, after_input, printed_input, dialogue}
 use Rattle.shell.proofs.serve.Given as goal
 
-abbrev pub invariant-loop-i : goal.invariant-loop-i
-invariant-loop-i l =
-    (l.i ≤ length l.block) × (length l.line ≡ length l.initial.line) × (length l.memory ≡ length l.initial.memory)
-    × (length l.out ≡ length l.initial.out)
-    × (dialogue l.q l.line l.memory ≡ after_input (take l.i l.block)
-    (dialogue l.initial.q l.initial.line l.initial.memory))
-    × Stored l.initial.q.used (printed_input (take l.i l.block)
-    (dialogue l.initial.q l.initial.line l.initial.memory)) l.initial.out l.q.used l.out
-    × (l.q.buffered ≤ line_buffer) × (l.q.used ≤ l.initial.q.used + l.i * reply_most)
-
-abbrev pub decreases-loop-i : goal.decreases-loop-i
-decreases-loop-i l =
-    length l.block - l.i
+abbrev pub invariant-loop-byte : goal.invariant-loop-byte
+invariant-loop-byte l = record {
+  leaves : dialogue l.shell l.line l.memory
+      ≡ after_input (take l.byte-index l.block) (dialogue l.initial.shell l.initial.line l.initial.memory);
+  prints : Stored l.initial.shell.used (printed_input (take l.byte-index l.block)
+      (dialogue l.initial.shell l.initial.line l.initial.memory)) l.initial.out l.shell.used l.out;
+  room : (l.shell.buffered ≤ line_buffer) × (l.shell.used ≤ l.initial.shell.used + l.byte-index * reply_most);
+}
