@@ -10,7 +10,7 @@ ghost use Rattle.program.specs.Reads.{count_read, after_read, printed_read, goes
 use shell::Shell;
 
 // What a read into the block gave: so many bytes, none at the end of the input, or `None` where it failed.
-#[tactic(auto, using(buffers::proofs::Splicing::splice_nothing))]
+#[tactic(auto, using(crate::proofs::Reading::hearing))]
 pub fn hear(
     got: Option<usize>,
     block: &[u8],

@@ -42,6 +42,7 @@ pub fn begin() -> Shell
     at_line_start(state::zero(), 0)
 }
 
+#[tactic(auto, using(crate::proofs::Buffering::with_byte_stored, crate::proofs::Buffering::with_byte_full))]
 fn buffer_byte(x: u8, h: Shell, line: &mut [u8]) -> Shell
     requires { (h.buffered ≤ line_buffer) × (length line.old ≡ line_buffer) }
     ensures line { take result.buffered line.new
@@ -77,6 +78,7 @@ fn end_line(h: Shell, line: &[u8], memory: &mut [u8], out: &mut [u8]) -> Shell
     )
 }
 
+#[tactic(auto, using(buffers::proofs::Splicing::splice_nothing), unfolding(crate::specs::Dialogue::after_byte, crate::specs::Dialogue::printed_byte))]
 fn take_byte(x: u8, h: Shell, line: &mut [u8], memory: &mut [u8], out: &mut [u8]) -> Shell
     requires { (h.buffered ≤ line_buffer) × (length line.old ≡ line_buffer)
         × (h.used + reply_most ≤ length out.old) }
@@ -113,6 +115,7 @@ pub fn serve(block: &[u8], h: Shell, line: &mut [u8], memory: &mut [u8], out: &m
 }
 
 // The input has ended, and with it a line that has begun.
+#[tactic(auto, using(buffers::proofs::Splicing::splice_nothing), unfolding(crate::specs::Dialogue::after_end, crate::specs::Dialogue::printed_end))]
 pub fn finish(h: Shell, line: &[u8], memory: &mut [u8], out: &mut [u8]) -> Shell
     requires { (h.buffered ≤ length line.now) × (h.used + reply_most ≤ length out.old) }
     ensures dialogue { dialogue result line.now memory.new
