@@ -15,7 +15,6 @@ use Rattle.commands.specs.declared.Command.TheVariants.{Format, Perform, Bad}
 use Rattle.commands.specs.declared.Loan.{Loan}
 use Rattle.commands.specs.Commands.{command_number}
 use Rattle.replies.specs.declared.Reply.{Reply}
-use Rattle.interpreter.specs.declared.Executed as code
 use Rattle.interpreter.specs.Lending.{lent_bytes}
 
 -- What the program keeps from line to line: the cabinet's state, and a memory with the disk area at its front.
@@ -31,9 +30,9 @@ pub record Executed : Type 0 where
   pub machine : Machine
   pub reply : Reply
 
--- the same in code, with the memory that it left
-abbrev pub with_memory : code.Executed → List ℕ → Executed
-with_memory x memory = record { machine = machine_of x.state memory; reply = x.reply }
+-- the same, as the code leaves it: the state, the memory, and the reply
+abbrev pub executed_to : State → List ℕ → Reply → Executed
+executed_to s memory reply = record { machine = machine_of s memory; reply = reply }
 
 -- ---- the disk area in the memory
 

@@ -1,5 +1,5 @@
 // The bytes that a command lends to its call.
-ghost use Rattle.std.specs.Prelude.{◌≡◌, ◌≤◌, length, take};
+ghost use Rattle.std.specs.Prelude.{◌≡◌, ◌≤◌, List, ℕ, length, take};
 ghost use Rattle.protocol.specs.Geometry.{block_size};
 ghost use Rattle.protocol.specs.States.{label_at};
 ghost use Rattle.interpreter.specs.Lending.{shown_label, lent_bytes};
@@ -10,12 +10,29 @@ use label_forms::label_form;
 use protocol::State;
 use protocol::geometry::BLOCK_SIZE;
 use sets::DISKS;
+use std::marker::Model;
 
-// The first so many of these.
-#[derive(Clone, Copy)]
+// At most a block of bytes: the first so many of these.
+#[derive(Drop)]
 pub struct Lent {
-    pub bytes: [u8; BLOCK_SIZE],
-    pub length: usize,
+    bytes: [u8; BLOCK_SIZE],
+    count: usize,
+}
+
+impl Model for Lent {
+    ghost Value = { List ℕ };
+
+    ghost view = { λ lent. take lent.count lent.bytes };
+
+    ghost invariant = { λ lent. lent.count ≤ length lent.bytes };
+}
+
+impl Lent {
+    pub fn as_slice(&self) -> &[u8]
+        ensures { result.now ≡ self.now }
+    {
+        &self.bytes[..self.count]
+    }
 }
 
 // A disk from DISKS up has no label in a state: blank, whatever its number.
@@ -27,25 +44,24 @@ fn label_at(labels: [Label; DISKS], d: usize) -> Label
 
 // The stored label, none for a disk that the cabinet does not have: the writer then refuses it, and yields length 0.
 fn shown_label(s: State, d: usize) -> Lent
-    ensures { (result.length ≤ length result.bytes) × (take result.length result.bytes ≡ shown_label s d block_size) }
+    ensures { result ≡ shown_label s d block_size }
 {
     let mut bytes = [0u8; BLOCK_SIZE];
-    let labels = s.labels;
-    let label = label_at(labels, d);
+    let label = label_at(s.labels, d);
     let written = label_form::write(&mut bytes, d, s.disks as usize, label);
     Lent {
-        bytes: bytes,
-        length: written.length,
+        bytes,
+        count: written.length,
     }
 }
 
 pub fn lend(loan: Loan, s: State) -> Lent
-    ensures { (result.length ≤ length result.bytes) × (take result.length result.bytes ≡ lent_bytes loan s) }
+    ensures { result ≡ lent_bytes loan s }
 {
     match loan {
         Loan::Block(v) => Lent {
             bytes: [v; BLOCK_SIZE],
-            length: BLOCK_SIZE,
+            count: BLOCK_SIZE,
         },
         Loan::StoredLabel(d) => shown_label(s, d),
     }

@@ -3,5 +3,5 @@ use Rattle.interpreter.proofs.perform.Goals as goal
 
 pub returns : goal.returns
 returns c =
-    rw c.reply_to.ensures
-    (call_leaves _ _ _ _ _ c.area_end-end.ensures (rw c.lend-lent.ensures.1 at c.apply-answer.ensures))
+    let done = rw (c.as_slice.ensures, c.lend-lent.ensures) at c.apply-answer.ensures in
+    rw c.reply_to.ensures (call_leaves _ _ _ _ _ c.area_end-end.ensures done)
