@@ -44,7 +44,8 @@ fn format(disks: u16, blocks: u16, state: &mut State, memory: &mut [u8]) -> Repl
 {
     let end = area_end(disks, blocks, memory.len());
     let answer = cabinet::format(disks as usize, blocks as usize, &mut memory[..end]);
-    if answer.refusal == 0 {
+    let done = answer.refusal == 0;
+    if done {
         *state = answer.state;
     }
     reply_to(answer.refusal, answer.stores, *state, 0)
