@@ -7,7 +7,7 @@ use Rattle.console.specs.Runs.{round_of}
 use Rattle.console.specs.Demand3.{RunsMeetDemand3}
 
 pub runs_meet_demand_3 : RunsMeetDemand3
-runs_meet_demand_3 memory₀ size last block line memory ran ended =
+runs_meet_demand_3 memory₀ size shell last block memory ran ended =
     let made = ran.made in
     record {
       blocks = blocks_of made.earlier;

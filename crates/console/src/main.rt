@@ -1,10 +1,10 @@
 // The cabinet program: it reads a block of input, has the shell serve it, and writes the replies.
 #![tactic(auto)]
 
-ghost use Rattle.std.specs.Prelude.{◌≡◌, ◌≤◌, length, Some, None, MatchResult};
+ghost use Rattle.std.specs.Prelude.{◌≡◌, length, Some, None, MatchResult};
 ghost use Rattle.buffers.specs.Buffers.{splice};
 ghost use Rattle.protocol.specs.Geometry.{most_disks, most_blocks, area_size};
-ghost use Rattle.shell.specs.Dialogue.{line_buffer, dialogue};
+ghost use Rattle.shell.specs.Dialogue.{dialogue, initial};
 ghost use Rattle.program.specs.Reads.{count_read, after_read, printed_read};
 ghost use Rattle.console.specs.Buffers.{Room};
 ghost use Rattle.console.specs.Runs.{Replies, Followed, Ran};
@@ -13,7 +13,7 @@ use program::goes_on;
 use protocol::geometry::{BLOCK_SIZE, MOST_BLOCKS};
 use replies::REPLY_MOST;
 use sets::DISKS;
-use shell::{LINE_BUFFER, Shell};
+use shell::Shell;
 use std::io;
 use std::io::Read;
 
@@ -26,10 +26,9 @@ const OUTPUT: usize = BLOCK * REPLY_MOST;
 // The largest disk area.
 const MEMORY: usize = DISKS * MOST_BLOCKS * BLOCK_SIZE;
 
-// What one read leaves, what it gave, and whether the replies were written.
+// What one read gave, and whether the replies to it were written.
 #[derive(Clone, Copy)]
 struct Served {
-    shell: Shell,
     got: Option<usize>,
     written: bool,
 }
@@ -49,14 +48,13 @@ fn largest_area() -> [u8; MEMORY]
     [0; MEMORY]
 }
 
-// The replies to what came are written.
-fn answer(rt: &HostRuntime, got: Option<usize>, h: Shell, said: &[u8]) -> Served
-    requires { Replies (count_read got) h said.now }
-    ensures { (result.got ≡ got)
-        × (result.shell ≡ record { state = h.state; buffered = h.buffered; used = 0 }) }
+// The replies to what came are written, and the output is empty again.
+fn answer(rt: &HostRuntime, got: Option<usize>, shell: &mut Shell, said: &[u8]) -> Served
+    requires { Replies (count_read got) shell.old said.now }
+    ensures { (result.got ≡ got) × (shell.new ≡ record shell.old { used = 0 }) }
 {
+    shell.used = 0;
     Served {
-        shell: Shell { used: 0, ..h },
         got,
         written: rt.write_all(said).is_ok(),
     }
@@ -65,23 +63,23 @@ fn answer(rt: &HostRuntime, got: Option<usize>, h: Shell, said: &[u8]) -> Served
 // One read, and the replies to what came, so that a person who types has them before the next read.
 fn serve_once(
     rt: &HostRuntime,
-    h: Shell,
+    shell: &mut Shell,
     block: &mut [u8],
-    line: &mut [u8],
     memory: &mut [u8],
     out: &mut [u8],
 ) -> Served
-    requires { (h.buffered ≤ line_buffer) × (h.used ≡ 0) × Room block.old line.old out.old }
-    ensures dialogue { dialogue result.shell line.new memory.new
-        ≡ after_read (count_read result.got) block.new (dialogue h line.old memory.old) }
+    requires { (shell.old.used ≡ 0) × Room block.old out.old }
+    ensures dialogue { dialogue shell.new memory.new
+        ≡ after_read (count_read result.got) block.new (dialogue shell.old memory.old) }
     ensures output { out.new
-        ≡ splice 0 (printed_read (count_read result.got) block.new (dialogue h line.old memory.old))
+        ≡ splice 0 (printed_read (count_read result.got) block.new (dialogue shell.old memory.old))
         out.old }
-    ensures room { (result.shell.buffered ≤ line_buffer) × (result.shell.used ≡ 0) }
+    ensures room { shell.new.used ≡ 0 }
 {
     let got = count_of(rt.stdin().read(block));
-    let after = program::hear(got, block, h, line, memory, out);
-    answer(rt, got, after, &out[..after.used])
+    program::hear(got, block, shell, memory, out);
+    let said = &out[..shell.used];
+    answer(rt, got, shell, said)
 }
 
 // The reads that follow one; none, where none is to follow. Their number only lets the proof see an end: at a read each
@@ -89,22 +87,21 @@ fn serve_once(
 fn read_on(
     rt: &HostRuntime,
     first: Served,
+    shell: &mut Shell,
     block: &mut [u8],
-    line: &mut [u8],
     memory: &mut [u8],
     out: &mut [u8],
 ) -> Served
-    requires { (first.shell.buffered ≤ line_buffer) × (first.shell.used ≡ 0)
-        × Room block.old line.old out.old }
-    ensures { Followed first block.old line.old memory.old out.old
-        result block.new line.new memory.new out.new }
+    requires { (shell.old.used ≡ 0) × Room block.old out.old }
+    ensures { Followed first shell.old block.old memory.old out.old
+        result shell.new block.new memory.new out.new }
 {
     let mut last = first;
     for _ in 0..u64::MAX - 1 {
         if !goes_on(last.got, last.written) {
             break;
         }
-        last = serve_once(rt, last.shell, block, line, memory, out);
+        last = serve_once(rt, shell, block, memory, out);
     }
     last
 }
@@ -112,22 +109,23 @@ fn read_on(
 #[tactic(auto, using(crate::proofs::Runs::first_made))]
 fn run(
     rt: &HostRuntime,
+    shell: &mut Shell,
     block: &mut [u8],
-    line: &mut [u8],
     memory: &mut [u8],
     out: &mut [u8],
 ) -> Served
-    requires { Room block.old line.old out.old }
-    ensures { Ran memory.old result block.new line.new memory.new }
+    requires { (dialogue shell.old memory.old ≡ initial memory.old) × (shell.old.used ≡ 0)
+        × Room block.old out.old }
+    ensures { Ran memory.old shell.new result block.new memory.new }
 {
-    let first = serve_once(rt, shell::begin(), block, line, memory, out);
-    read_on(rt, first, block, line, memory, out)
+    let first = serve_once(rt, shell, block, memory, out);
+    read_on(rt, first, shell, block, memory, out)
 }
 
 fn main(rt: HostRuntime) {
+    let mut shell = Shell::new();
     let mut block = [0u8; BLOCK];
-    let mut line = [0u8; LINE_BUFFER];
     let mut memory = largest_area();
     let mut out = [0u8; OUTPUT];
-    run(&rt, &mut block, &mut line, &mut memory, &mut out);
+    run(&rt, &mut shell, &mut block, &mut memory, &mut out);
 }

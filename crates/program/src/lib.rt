@@ -4,35 +4,27 @@
 ghost use Rattle.std.specs.Prelude.{◌≡◌, ◌+◌, ◌*◌, ◌≤◌, length};
 ghost use Rattle.buffers.specs.Buffers.{Stored};
 ghost use Rattle.replies.specs.Replies.{reply_most};
-ghost use Rattle.shell.specs.Dialogue.{line_buffer, dialogue};
+ghost use Rattle.shell.specs.Dialogue.{dialogue};
 ghost use Rattle.program.specs.Reads.{count_read, after_read, printed_read, goes_on};
 
 use shell::Shell;
 
 // What a read into the block gave: so many bytes, none at the end of the input, or `None` where it failed.
 #[tactic(auto, using(crate::proofs::Reading::hearing))]
-pub fn hear(
-    got: Option<usize>,
-    block: &[u8],
-    h: Shell,
-    line: &mut [u8],
-    memory: &mut [u8],
-    out: &mut [u8],
-) -> Shell
-    requires { (h.buffered ≤ line_buffer) × (length line.old ≡ line_buffer)
-        × (h.used + length block.now * reply_most ≤ length out.old)
-        × (h.used + reply_most ≤ length out.old) }
-    ensures dialogue { dialogue result line.new memory.new
-        ≡ after_read (count_read got) block.now (dialogue h line.old memory.old) }
-    ensures output { Stored h.used
-        (printed_read (count_read got) block.now (dialogue h line.old memory.old))
-        out.old result.used out.new }
-    ensures room { (result.buffered ≤ line_buffer) × (result.used ≤ length out.new) }
+pub fn hear(got: Option<usize>, block: &[u8], shell: &mut Shell, memory: &mut [u8], out: &mut [u8])
+    requires { (shell.old.used + length block.now * reply_most ≤ length out.old)
+        × (shell.old.used + reply_most ≤ length out.old) }
+    ensures dialogue { dialogue shell.new memory.new
+        ≡ after_read (count_read got) block.now (dialogue shell.old memory.old) }
+    ensures output { Stored shell.old.used
+        (printed_read (count_read got) block.now (dialogue shell.old memory.old))
+        out.old shell.new.used out.new }
+    ensures room { shell.new.used ≤ length out.new }
 {
     match got {
-        None => h,
-        Some(0) => shell::finish(h, line, memory, out),
-        Some(count) => shell::serve(&block[..count.min(block.len())], h, line, memory, out),
+        None => {}
+        Some(0) => shell.finish(memory, out),
+        Some(count) => shell.serve(&block[..count.min(block.len())], memory, out),
     }
 }
 

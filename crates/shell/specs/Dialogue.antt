@@ -1,6 +1,6 @@
 -- Document 01, "The cabinet program": lines in, lines out. First as the paper has it, over the lines of a whole
 -- input; then byte by byte, as input comes.
-use Rattle.std.specs.Prelude.{cond, List, [], ◌∷◌, ◌++◌, ℕ, ◌+◌, eqb, ltb, length, take}
+use Rattle.std.specs.Prelude.{cond, List, [], ◌∷◌, ◌++◌, ℕ, ◌+◌, eqb, ltb, length}
 use Rattle.protocol.specs.States.{zero_state}
 use Rattle.commands.specs.Commands.{on_first, line_most, command_of}
 use Rattle.replies.specs.Replies.{reply_line}
@@ -88,8 +88,7 @@ unfoldable pub after_blocks : List (List ℕ) → Dialogue → Dialogue
 after_blocks [] d = after_end d
 after_blocks (block ∷ later) d = after_blocks later (after_input block d)
 
--- ---- the same in the code's buffers
+-- ---- the same in the code
 
-abbrev pub dialogue : Shell → List ℕ → List ℕ → Dialogue
-dialogue h line memory =
-    record { machine = machine_of h.state memory; line = take h.buffered line }
+abbrev pub dialogue : Shell → List ℕ → Dialogue
+dialogue shell memory = record { machine = machine_of shell.state memory; line = shell.line }

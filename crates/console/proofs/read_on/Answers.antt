@@ -11,8 +11,8 @@ loop-preserved c =
     let served = c.serve_once-last.ensures in
     let on = sym c.if-not-goes_on.ensures in
     record {
-      begun = served.room;
-      room = record { buffers = omega arith; answers = omega arith; ends = omega arith };
+      empty = served.room;
+      room = record { answers = omega arith; ends = omega arith };
       none = λ off. clash (rw (before.none off).0 at on) off;
       some = λ start made. next_made (before.some start made) on served.dialogue;
     }

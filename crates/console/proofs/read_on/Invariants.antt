@@ -1,8 +1,7 @@
 use mathlib.Core.Path.{◌≡◌}
 use mathlib.Core.Bool.{false}
 use mathlib.Core.List.{List}
-use Prim.Native.Nat.{ℕ, ◌+◌, ◌≤◌}
-use Rattle.shell.specs.Dialogue.{line_buffer}
+use Prim.Native.Nat.{ℕ, ◌+◌}
 use Rattle.program.specs.Reads.{count_read, goes_on}
 use Rattle.console.specs.Buffers.{Room}
 use Rattle.console.specs.Runs.{Made}
@@ -10,11 +9,11 @@ use Rattle.console.proofs.read_on.Given as goal
 
 abbrev pub invariant-loop : goal.invariant-loop
 invariant-loop l = record {
-  begun : (l.last.shell.buffered ≤ line_buffer) × (l.last.shell.used ≡ 0);
-  room : Room l.block l.line l.out;
+  empty : l.shell.used ≡ 0;
+  room : Room l.block l.out;
   none : goes_on (count_read l.initial.last.got) l.initial.last.written ≡ false
-      → (l.last ≡ l.initial.last) × (l.block ≡ l.initial.block) × (l.line ≡ l.initial.line)
+      → (l.last ≡ l.initial.last) × (l.shell ≡ l.initial.shell) × (l.block ≡ l.initial.block)
       × (l.memory ≡ l.initial.memory) × (l.out ≡ l.initial.out);
-  some : (start : List ℕ) → Made 1 start l.initial.last l.initial.block l.initial.line l.initial.memory
-      → Made (l.counter + 1) start l.last l.block l.line l.memory;
+  some : (start : List ℕ) → Made 1 start l.initial.shell l.initial.last l.initial.block l.initial.memory
+      → Made (l.counter + 1) start l.shell l.last l.block l.memory;
 }

@@ -6,8 +6,8 @@ use Rattle.console.proofs.serve_once.Goals as goal
 
 pub answer-requires : goal.answer-requires
 answer-requires c =
-    let heard = c.hear-after in
-    let empty = c.requires.1 in
+    let heard = c.hear in
+    let empty = c.requires.0 in
     record {
       all = length-take-le _ _ (omega arith);
       block = _;

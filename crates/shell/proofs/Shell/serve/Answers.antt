@@ -7,40 +7,36 @@ use lib.Seq.{take_all}
 use Rattle.buffers.proofs.Splicing.{splice_nothing}
 use Rattle.shell.specs.Dialogue.{after_input, printed_input, dialogue}
 use Rattle.shell.proofs.Blocks.{after_next, stores_next}
-use Rattle.shell.proofs.serve.Goals as goal
+use Rattle.shell.proofs.Shell.serve.Goals as goal
 
 pub loop-byte-init : goal.loop-byte-init
 unfolding after_input printed_input
-loop-byte-init c = record {
-  leaves = refl;
-  prints = (sym (add-zero _), sym (splice_nothing _ _));
-  room = (omega arith, omega arith);
-}
+loop-byte-init c =
+    record { leaves = refl; prints = (sym (add-zero _), sym (splice_nothing _ _)); room = omega arith }
 
 pub loop-byte-preserved : goal.loop-byte-preserved
 loop-byte-preserved c =
-    let step = c.take_byte-shell.ensures in
+    let step = c.take_byte.ensures in
     let l = c.loop-byte in
     let before = l.invariant in
     let start = c.args in
-    let d = dialogue start.h start.line.now start.memory.now in
+    let d = dialogue start.self.now start.memory.now in
     let block = start.block.now in
     let here : l.byte-index < length block = omega arith in
     record {
       leaves = after_next block l.byte-index here d before.leaves step.dialogue;
       prints =
-          stores_next block l.byte-index here d before.leaves start.out.now start.h.used (omega arith) before.prints
-          step.output;
-      room = (step.room.0, omega (arith, step.room.1));
+          stores_next block l.byte-index here d before.leaves start.out.now start.self.now.used (omega arith)
+          before.prints step.output;
+      room = omega (arith, step.room);
     }
 
 pub returns : goal.returns
 returns c =
     let l = c.loop-byte in
-    let block = c.args.block.now in
-    let whole = take_all l.byte-index block (omega arith) in
+    let whole = take_all l.byte-index c.args.block.now (omega arith) in
     record {
       dialogue = rw whole at l.invariant.leaves;
       output = rw whole at l.invariant.prints;
-      room = (l.invariant.room.0, omega arith);
+      room = omega arith;
     }
