@@ -55,3 +55,12 @@ next_step line i s next h e step =
 
 pub few_read : (line : List ℕ) (i : ℕ) (s : Scan) → i ≤ length line → s ≡ scanned initial_scan (take i line) → Few i s
 few_read line i s h e = rw (← length-take-le i line h, e) (few (take i line))
+
+pub nothing_read : ◌≡◌ {A = Scan}
+    record { letter = 0; words = 0; third = 0; second = 0; last = 0; bytes = 0; value = 0; valid = true }
+    (scanned initial_scan [])
+unfolding scanned initial_scan
+nothing_read = refl
+
+-- what the check needs to prove `Scan::of`
+pub ruleset scanning = (nothing_read, next_step, few_read)

@@ -36,7 +36,7 @@ impl Scan {
     };
 
     // A line's bytes; its last word has not ended.
-    #[tactic(auto, unfolding(crate::specs::Scanning::initial_scan, crate::specs::Scanning::scanned))]
+    #[tactic(auto, using(crate::proofs::OnePass::scanning))]
     pub fn of(line: &[u8]) -> Self
         requires { length line.now ≤ line_most }
         ensures value { result ≡ scanned initial_scan line.now }

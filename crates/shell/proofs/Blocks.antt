@@ -1,13 +1,39 @@
 -- Input byte by byte, and block by block. Assumes nothing.
 use mathlib.Core.Path.{◌≡◌, refl, sym, ◌∙◌}
+use mathlib.Core.Bool.{cond}
 use mathlib.Core.List.{List, [], ◌∷◌, ◌++◌, append_assoc, append-nil}
 use Prim.Native.Nat.{ℕ, ◌+◌, ◌≤◌, ◌<◌}
 use native.Mathlib.Numerals.{add-one}
+use lib.Dec.{eqb}
 use lib.ListN.{length, take, get_or}
 use lib.Seq.{take-suc}
 use Rattle.buffers.specs.Buffers.{Stored}
-use Rattle.buffers.proofs.Splicing.{stored_after}
-use Rattle.shell.specs.Dialogue.{Dialogue, after_byte, printed_byte, after_input, printed_input}
+use Rattle.buffers.proofs.Splicing.{splice_nothing, stored_after}
+use Rattle.replies.specs.Replies.{reply_line}
+use Rattle.shell.specs.Dialogue.{Dialogue, line_result, line_ended, line_with_byte, after_byte, printed_byte}
+use Rattle.shell.specs.Dialogue.{after_input, printed_input, after_end, printed_end}
+
+-- ---- what one byte and the end of the input leave and print, by their tests
+
+pub after_byte_lem : (x : ℕ) (d : Dialogue) → after_byte x d ≡ cond (eqb x 10) (line_ended d) (line_with_byte x d)
+unfolding after_byte
+after_byte_lem x d = refl
+
+pub printed_byte_lem : (x : ℕ) (d : Dialogue) → printed_byte x d ≡ cond (eqb x 10) (reply_line (line_result d).reply) []
+unfolding printed_byte
+printed_byte_lem x d = refl
+
+pub after_end_lem : (d : Dialogue) → after_end d ≡ cond (eqb (length d.line) 0) d (line_ended d)
+unfolding after_end
+after_end_lem d = refl
+
+pub printed_end_lem : (d : Dialogue) → printed_end d
+    ≡ cond (eqb (length d.line) 0) [] (reply_line (line_result d).reply)
+unfolding printed_end
+printed_end_lem d = refl
+
+-- what the check needs to prove `take_byte` and `finish`
+pub ruleset serving = (splice_nothing, after_byte_lem, printed_byte_lem, after_end_lem, printed_end_lem)
 
 -- ---- input in two parts
 

@@ -50,7 +50,7 @@ impl Shell {
         self.line.clear();
     }
 
-    #[tactic(auto, using(buffers::proofs::Splicing::splice_nothing), unfolding(crate::specs::Dialogue::after_byte, crate::specs::Dialogue::printed_byte))]
+    #[tactic(auto, using(crate::proofs::Blocks::serving))]
     fn take_byte(&mut self, byte: u8, memory: &mut [u8], out: &mut [u8])
         requires { self.old.used + reply_most ≤ length out.old }
         ensures dialogue { dialogue self.new memory.new ≡ after_byte byte (dialogue self.old memory.old) }
@@ -82,7 +82,7 @@ impl Shell {
     }
 
     // The input has ended, and with it a line that has begun.
-    #[tactic(auto, using(buffers::proofs::Splicing::splice_nothing), unfolding(crate::specs::Dialogue::after_end, crate::specs::Dialogue::printed_end))]
+    #[tactic(auto, using(crate::proofs::Blocks::serving))]
     pub fn finish(&mut self, memory: &mut [u8], out: &mut [u8])
         requires { self.old.used + reply_most ≤ length out.old }
         ensures dialogue { dialogue self.new memory.new ≡ after_end (dialogue self.old memory.old) }
