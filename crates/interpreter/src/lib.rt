@@ -25,11 +25,11 @@ fn area_end(disks: u16, blocks: u16, most: usize) -> usize
 }
 
 #[tactic(auto, unfolding(crate::specs::Execution::reply_to))]
-fn reply_to(res: u8, stores: u16, s: State, byte: u8) -> Reply
-    ensures { result ≡ reply_to res stores s byte }
+fn reply_to(number: u8, stores: u16, s: State, byte: u8) -> Reply
+    ensures { result ≡ reply_to number stores s byte }
 {
     Reply {
-        result: res,
+        result: number,
         stores,
         current: state::current(s.power),
         online: s.online,

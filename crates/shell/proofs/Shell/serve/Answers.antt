@@ -3,7 +3,6 @@ use Prim.Native.Nat.{◌<◌}
 use native.Mathlib.Nat.{add-zero}
 use native.Mathlib.Omega.{arith}
 use lib.ListN.{length}
-use lib.Seq.{take_all}
 use Rattle.buffers.proofs.Splicing.{splice_nothing}
 use Rattle.shell.specs.Dialogue.{after_input, printed_input, dialogue}
 use Rattle.shell.proofs.Blocks.{after_next, stores_next}
@@ -29,14 +28,4 @@ loop-byte-preserved c =
           stores_next block l.byte-index here d before.leaves start.out.now start.self.now.used (omega arith)
           before.prints step.output;
       room = omega (arith, step.room);
-    }
-
-pub returns : goal.returns
-returns c =
-    let l = c.loop-byte in
-    let whole = take_all l.byte-index c.args.block.now (omega arith) in
-    record {
-      dialogue = rw whole at l.invariant.leaves;
-      output = rw whole at l.invariant.prints;
-      room = omega arith;
     }
