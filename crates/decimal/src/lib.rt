@@ -8,7 +8,8 @@ ghost use Rattle.std.specs.Prelude.{◌+◌, ◌≤◌, length};
 ghost use Rattle.buffers.specs.Buffers.{Stored};
 ghost use Rattle.decimal.specs.Numerals.{numeral};
 
-// Stores the number's numeral at a place, and gives the place behind it.
+// Stores the number's numeral at a place, and gives the place behind it. The place is passed, and not the buffer from
+// there on: `Stored` also says that what stands in front of it stays.
 #[tactic(auto, using(crate::proofs::Putting::putting))]
 pub fn put(out: &mut [u8], at: usize, n: u16) -> usize
     requires { at + length (numeral n) ≤ length out.old }

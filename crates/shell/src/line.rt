@@ -7,6 +7,7 @@ use std::marker::Model;
 // One byte more than a line may have: it is then too long, however long.
 const LINE_BUFFER: usize = LINE_MOST + 1;
 
+// `interpreter` lends bytes in a buffer as plain, but adds none to them: the two would share `as_slice` alone.
 #[derive(Drop)]
 pub struct Line {
     bytes: [u8; LINE_BUFFER],
