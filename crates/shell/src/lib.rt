@@ -90,6 +90,7 @@ impl Shell {
             (printed_end (dialogue self.old memory.old))
             out.old self.new.used out.new }
         ensures room { self.new.used ≤ self.old.used + reply_most }
+        ensures ended { self.new.line ≡ [] }
     {
         if !self.line.is_empty() {
             self.end_line(memory, out);
