@@ -1,3 +1,2 @@
 -- The laws of buffers.
 pub mod Splicing
-pub mod Filling

@@ -42,7 +42,7 @@ fn label_at(labels: [Label; DISKS], d: usize) -> Label
     if d < DISKS { labels[d] } else { label::blank() }
 }
 
-// The stored label, none for a disk that the cabinet does not have: the writer then refuses it, and yields length 0.
+// The stored label, none for a disk that the cabinet does not have: the writer then refuses it.
 fn shown_label(s: State, d: usize) -> Lent
     ensures { result ≡ shown_label s d block_size }
 {
@@ -51,7 +51,7 @@ fn shown_label(s: State, d: usize) -> Lent
     let written = label_form::write(&mut bytes, d, s.disks as usize, label);
     Lent {
         bytes,
-        count: written.length,
+        count: written.unwrap_or(0),
     }
 }
 

@@ -10,7 +10,7 @@ use commands::{Command, Loan};
 use lending::lend;
 use protocol::geometry::BLOCK_SIZE;
 use protocol::{Call, State};
-use refusals::numbers::BAD_LINE;
+use refusals::Refusal;
 use replies::Reply;
 
 mod lending;
@@ -77,6 +77,6 @@ pub fn execute(command: Command, state: &mut State, memory: &mut [u8]) -> Reply
     match command {
         Command::Format { disks, blocks } => format(disks, blocks, state, memory),
         Command::Perform { call, loan } => perform(call, loan, state, memory),
-        Command::Bad => reply_to(BAD_LINE, 0, *state, 0),
+        Command::Bad => reply_to(Refusal::BadLine.number(), 0, *state, 0),
     }
 }
