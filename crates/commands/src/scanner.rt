@@ -6,7 +6,7 @@ ghost use Rattle.commands.specs.Scanning.{letter_with, byte_read, stepped, scann
 
 // How far a line has been read: the byte that its first word has; how many words have ended, and the last three of
 // them as numbers, the latest last; the length and the value of the word under way; and whether every word so far is
-// what a command may have there.
+// what a command may have there: a flag and no Option, since `scanned` goes on to the line's end all the same.
 #[derive(Clone, Copy)]
 pub struct Scan {
     pub letter: u8,
@@ -67,7 +67,6 @@ impl Scan {
         ensures { result ≡ word_ended self }
     {
         Scan {
-            letter: self.letter,
             words: self.words + 1,
             third: self.second,
             second: self.last,
@@ -75,6 +74,7 @@ impl Scan {
             bytes: 0,
             value: 0,
             valid: self.valid && self.fits(),
+            ..self
         }
     }
 
@@ -85,13 +85,10 @@ impl Scan {
     {
         Scan {
             letter: self.letter_with(byte),
-            words: self.words,
-            third: self.third,
-            second: self.second,
-            last: self.last,
             bytes: self.bytes + 1,
             value: self.value_with(byte),
             valid: self.valid && (self.words == 0 || byte.is_ascii_digit()),
+            ..self
         }
     }
 

@@ -7,7 +7,8 @@ use sets::{DISKS, Mask};
 
 pub mod geometry;
 
-// "a power condition: either running with a current set G, or stopped with none"
+// "a power condition: either running with a current set G, or stopped with none". No Option: the definitions and the
+// theorems over them (`Sound`, `runs_with`, `Demand3`) tell the two apart by these names.
 #[derive(Clone, Copy)]
 pub enum Power {
     Stopped,
@@ -25,7 +26,9 @@ pub struct State {
     pub power: Power,
 }
 
-// What every call yields beside its buffers: the refusal's number, 0 if done; the number of stores made; the state.
+// What every call yields beside its buffers: the refusal's number, 0 if done; the number of stores made; the state. No
+// Result: a call that the power cuts has a number and a state, and the theorems (`Demand3`, `SwapsBlank`) speak of the
+// number. Code has `Refusal` up to here.
 #[derive(Clone, Copy)]
 pub struct Answer {
     pub refusal: u8,
@@ -35,7 +38,7 @@ pub struct Answer {
 
 // Why a disk's own set is no candidate of a stage, or that it is one (document 02, 2.2): in the order of the paper's
 // sentence, with the disk that the sentence names. `reason_number` and `reason_disk` of specs/Diagnosis.antt give each
-// case's number and value.
+// case's number and value. A refused diagnosis has a reason too, with a number as the others, so it is no Option.
 #[derive(Clone, Copy)]
 pub enum Reason {
     NoReason,
@@ -46,8 +49,8 @@ pub enum Reason {
     IsCandidate,
 }
 
-// What a diagnosis yields: the refusal's number, 0 if done; the reason; the set that a restart would find without the
-// disk, else 0.
+// What a diagnosis yields: the refusal's number, 0 if done, as `DiagnosisRight` and C have it; the reason; the set that
+// a restart would find without the disk, else 0.
 #[derive(Clone, Copy)]
 pub struct Diagnosis {
     pub refusal: u8,
