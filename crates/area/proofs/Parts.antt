@@ -5,7 +5,7 @@ use Prim.Native.Nat.{ℕ, ◌+◌, ◌*◌, ◌-◌, ◌≤◌, ◌<◌}
 use native.Mathlib.Nat.{zero-add, add_assoc, mul-le-mul_right}
 use native.Mathlib.Omega.{arith}
 use lib.ListN.{length, take, drop, replicate, length-take, length-drop, length-replicate, take-append-drop}
-use lib.Seq.{take-length, drop-length, drop-append-le, take-append-le, take-add, drop-drop, take-take}
+use lib.Seq.{drop-length, drop-append-le, take-append-le, take-add, drop-drop, take-take}
 use borrow.Rule.Slice.PartMut.{mid_of, put_mid}
 use Rattle.buffers.specs.Buffers.{splice}
 use Rattle.protocol.specs.Geometry.{most_disks, most_blocks, block_size, area_size, place, block, with_block}
@@ -42,9 +42,6 @@ module _ (whole : List ℕ) (a n : ℕ) (fits : a + n ≤ length whole) where
       sym (take-append-le size (drop at (mid_of a n whole)) (drop n (drop a whole)) l) ∙ rw (behind at (omega arith))
 
 -- ---- a block by itself
-
-pub alone_loaded : (part : List ℕ) → length part ≡ block_size → take block_size (drop (0 * block_size) part) ≡ part
-alone_loaded part full = ap (λ n. take n part) (sym full) ∙ take-length part
 
 pub alone_stored : (part bytes : List ℕ) → length bytes ≡ length part → splice 0 bytes part ≡ bytes
 unfolding splice

@@ -19,14 +19,10 @@ pub fn wrong_block_count(blocks: usize) -> bool
     (blocks < 1) | (MOST_BLOCKS < blocks)
 }
 
-// How many regions so many blocks have; "the last may be short". Counted from the last block, since a sum that
-// rounds up could overflow.
+// How many regions so many blocks have; "the last may be short".
+#[tactic(auto, unfolding(protocol::specs::Geometry::regions))]
 pub fn region_count(blocks: usize) -> usize
     ensures { result ≡ regions blocks }
 {
-    if blocks == 0 {
-        0
-    } else {
-        (blocks - 1) / REGION_SIZE + 1
-    }
+    blocks.div_ceil(REGION_SIZE)
 }

@@ -11,8 +11,8 @@ pub use ending::ended;
 pub use starting::{size_of, started};
 
 // A call under way: the labels so far, and how many stores the power still allows; the disk area is lent beside it. A
-// loop goes on when none is left and stores nothing, so no loop ends early. Stores stand in the loops themselves: a
-// function of its own for each would be handed the run, and give it back, by value.
+// loop goes on when none is left and stores nothing, so no loop ends early. Stores stand in the loops themselves:
+// each of the three makes another one, and what they share is one condition and one subtraction.
 #[derive(Clone, Copy)]
 pub struct Run {
     pub labels: [Label; DISKS],

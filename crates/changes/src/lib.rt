@@ -10,7 +10,7 @@ use budget::Run;
 use label::Label;
 use sets::{DISKS, Mask};
 
-// A store on a label, without its disk.
+// A store on a label, without its disk. A value and no closure: `change_on` and `FitChange` go by its cases.
 #[derive(Clone, Copy)]
 pub enum Change {
     // The dirty bit of a region: it stands, or it is cleared.

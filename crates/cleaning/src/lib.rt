@@ -24,6 +24,7 @@ fn clean_stores(s: State, budget: u16) -> Answer
         ≡ carry_out (clean_list s) budget s area output (runs_with (current_of s.power) s output) }
 {
     let size = size_of(s);
+    // By a variable: the check follows no field that is an array straight into a literal.
     let labels = s.labels;
     let live = state::live(s);
     let standing = Standing {

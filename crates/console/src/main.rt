@@ -26,7 +26,8 @@ const OUTPUT: usize = BLOCK * REPLY_MOST;
 // The largest disk area.
 const MEMORY: usize = DISKS * MOST_BLOCKS * BLOCK_SIZE;
 
-// What one read gave, and whether the replies to it were written.
+// What one read gave, and whether the replies to it were written. That flag says nothing of the read, so it is no
+// Option round it.
 #[derive(Clone, Copy)]
 struct Served {
     got: Option<usize>,

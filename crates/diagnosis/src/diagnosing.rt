@@ -39,6 +39,7 @@ fn diagnosed(s: State, stage: Stage, number: usize, d: usize) -> Diagnosis
     requires { Sound s × (d < s.disks) × (stage_of stage ≡ stage_numbered number) }
     ensures { result ≡ diagnosed s number d }
 {
+    // By a variable: the check follows no field that is an array straight into a literal.
     let labels = s.labels;
     let view = View {
         disks: s.disks as usize,

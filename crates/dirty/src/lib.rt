@@ -11,8 +11,8 @@ use label::Label;
 use regions::RegionMap;
 use sets::{DISKS, Mask};
 
-// The disks below n on which region r is dirty. `finder` collects disks by another property in such a loop: one function
-// for both would stand in `sets`, below `disks_where`, which says what it gives.
+// The disks below n on which region r is dirty. `finder` collects disks by another property in such a loop. With a
+// closure for the property each would owe what that says of a disk, which is longer than the loop.
 #[tactic(auto, unfolding(crate::specs::DirtyBits::dirty_disks))]
 pub fn dirty_disks(labels: [Label; DISKS], n: usize, r: usize) -> Mask
     requires { n ≤ DISKS }

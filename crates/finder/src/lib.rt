@@ -15,7 +15,7 @@ mod search;
 mod set_list;
 mod stages;
 
-#[derive(Clone, Copy, PartialEq, Eq)]
+#[derive(Clone, Copy)]
 pub enum Stage {
     First,
     Second,

@@ -48,7 +48,8 @@ impl View {
         self.found_among(stage, self.shortlist(stage).as_slice())
     }
 
-    // The disks that are in any T. Mostly there is none, and then the first two stages have nothing to test.
+    // The disks that are in any T. Mostly there is none, and then the first two stages have nothing to test. By number,
+    // as each loop over all eight labels, so that compiled code knows the disk.
     #[tactic(auto, unfolding(protocol::specs::Loops::union_below))]
     fn proposals(&self) -> Mask
         ensures { result ≡ union_below most_disks (tentative_at self.now.labels) }

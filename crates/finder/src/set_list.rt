@@ -4,7 +4,8 @@ ghost use Rattle.protocol.specs.Geometry.{most_disks};
 
 use sets::{DISKS, Mask};
 
-// The first `count` of the sets; the list is no Vec, since nothing here allocates.
+// The first `count` of the sets. No Vec, since nothing here allocates; no fixed vector of the kit's, since that crate
+// would be one more to trust.
 #[derive(Clone, Copy)]
 pub(crate) struct SetList {
     sets: [Mask; DISKS],

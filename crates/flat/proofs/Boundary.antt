@@ -11,20 +11,11 @@ use Rattle.sets.proofs.Tests.{Test, passes, fails, test}
 use Rattle.label.specs.declared.Label.{Label}
 use Rattle.protocol.specs.declared.Power.{Power}
 use Rattle.protocol.specs.declared.Power.TheVariants.{Stopped, Running}
-use Rattle.protocol.specs.declared.Answer.{Answer}
 use Rattle.protocol.specs.States.{current_of}
 use Rattle.protocol.specs.Soundness.{FitPower}
-use Rattle.protocol.specs.Outcomes.{Outcome}
 use Rattle.protocol.proofs.Diagnoses.{changes_nothing}
-use Rattle.flat.specs.declared.FlatAnswer.{FlatAnswer}
-use Rattle.flat.specs.Flat.{FlatOutcome, power_of, opened, flat_state, flat_answer, flat_outcome}
+use Rattle.flat.specs.Flat.{power_of, opened, flat_state, flat_answer, flat_outcome}
 use Rattle.flat.specs.Flat.{flat_diagnosis, DiagnosisIsCall, OpenedIsWritten, SoundIsWritten}
-
-pub flat_outcome_lem : {r : FlatAnswer} {a : Answer} {area output : List ℕ} {o : Outcome} → r ≡ flat_answer a
-    → record { answer = a; area = area; output = output } ≡ o
-    → ◌≡◌ {A = FlatOutcome} (record { answer = r; area = area; output = output }) (flat_outcome o)
-unfolding flat_outcome
-flat_outcome_lem given yields = rw (← yields, given)
 
 current_written : (g : ℕ) → current_of (power_of g) ≡ g
 unfolding power_of

@@ -58,6 +58,7 @@ impl From<FlatState> for State {
 
     #[tactic(auto, unfolding(crate::specs::Flat::opened))]
     fn from(flat: FlatState) -> State {
+        // By a variable: the check follows no field that is an array straight into a literal.
         let labels = flat.labels;
         State {
             disks: flat.disks,

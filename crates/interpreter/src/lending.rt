@@ -12,7 +12,7 @@ use protocol::geometry::BLOCK_SIZE;
 use sets::DISKS;
 use std::marker::Model;
 
-// At most a block of bytes: the first so many of these.
+// At most a block of bytes: the first so many of these. An array, since nothing here allocates.
 #[derive(Drop)]
 pub struct Lent {
     bytes: [u8; BLOCK_SIZE],

@@ -32,8 +32,8 @@ fn diagnosed(state: FlatState, refusal: u8) -> FlatAnswer
     }
 }
 
-// Makes the call. A buffer that it does not take, it leaves. The arms are those of `cabinet::apply` with other functions:
-// these names are what is tied here, so that one match for both would say nothing.
+// Makes the call. A buffer that it does not take, it leaves. The arms are those of `cabinet::apply` with other
+// functions: these names are what is tied here, so that one match for both would say nothing.
 #[tactic(auto, unfolding(protocol::specs::History::perform), using(flat::proofs::Boundary::diagnosis_is_call))]
 pub fn apply(
     call: Call,

@@ -19,6 +19,7 @@ pub(crate) fn set_to_run(s: State, area: &[u8]) -> Result<Mask, Refusal>
     ensures set { IfOk result (λ set. set ≡ the_set (found_by s)) }
 {
     let disks = s.disks as usize;
+    // By a variable: the check follows no field that is an array straight into a literal.
     let labels = s.labels;
     Refusal::Unsound.when(!sound(s))?;
     Refusal::BufferLength.when(!area::fits(disks, s.blocks as usize, area.len()))?;

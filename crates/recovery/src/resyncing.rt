@@ -1,5 +1,6 @@
 // The dirty regions of a restart: "For each region, ascending, that is dirty on any disk of S", which are given as a
-// map.
+// map. Map, size and set go through these four as they are: with a struct of them each clause would say `self.now` of
+// every one, and `Fits` is of an area that no struct holds.
 ghost use Rattle.std.specs.Prelude.{◌≡◌, true, ◌+◌, ◌*◌, ◌≤◌, ◌<◌, length};
 ghost use Rattle.sets.specs.Sets.{below};
 ghost use Rattle.protocol.specs.Geometry.{most_disks, most_blocks, most_regions, region_size, regions};

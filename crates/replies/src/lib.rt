@@ -7,7 +7,8 @@ ghost use Rattle.replies.specs.Replies.{field_most, reply_most, field, reply_lin
 
 use sets::Mask;
 
-// The five numbers: current is G, 0 if stopped; online is R; byte is the first byte read, 0 unless a read was done.
+// The five numbers, as they are printed, so no enum for the result: current is G, 0 if stopped; online is R; byte is
+// the first byte read, 0 unless a read was done.
 #[derive(Clone, Copy)]
 pub struct Reply {
     pub result: u8,
@@ -20,7 +21,7 @@ pub struct Reply {
 // Five numbers of at most five digits, and a byte behind each.
 pub const REPLY_MOST: usize = 30;
 
-// Stores a number and the byte that ends it, and gives the place behind them.
+// Stores a number and the byte that ends it, and gives the place behind them: `put` of `decimal` says why by the place.
 #[tactic(auto, using(decimal::proofs::Numerals::short))]
 fn put_field(out: &mut [u8], at: usize, n: u16, end: u8) -> usize
     requires { at + field_most ≤ length out.old }

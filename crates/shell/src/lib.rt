@@ -15,7 +15,8 @@ mod line;
 
 pub use line::Line;
 
-// Between two bytes: the cabinet's state, the line under way, and how much of the output is used.
+// Between two bytes: the cabinet's state, the line under way, and how much of the output is used. The output and the
+// memory are lent to each call, and in no struct: each method would have to promise that it keeps the references.
 #[derive(Drop)]
 pub struct Shell {
     pub state: State,

@@ -7,7 +7,8 @@ use std::marker::Model;
 // One byte more than a line may have: it is then too long, however long.
 const LINE_BUFFER: usize = LINE_MOST + 1;
 
-// `interpreter` lends bytes in a buffer as plain, but adds none to them: the two would share `as_slice` alone.
+// `interpreter` lends bytes in such a buffer, and the finder's list of sets is one. Each is a dozen lines, and one type
+// for the three would have an element and a size for parameters; an array of a type parameter is not to be had.
 #[derive(Drop)]
 pub struct Line {
     bytes: [u8; LINE_BUFFER],

@@ -26,8 +26,8 @@ fn arguments_refusal(disks: usize, blocks: usize, online: Mask, slots: &[u8]) ->
     Refusal::NoSuchDisk.when(!sets::below(online, disks))
 }
 
-// "Then for each slot ascending": the first refusal of theirs, or else their labels. The label reader is handed the part
-// of the slots that starts at a disk's slot.
+// "Then for each slot ascending": the first refusal of theirs, or else their labels. The label reader is handed the
+// part of the slots that starts at a disk's slot.
 fn read_slots(disks: usize, blocks: usize, slots: &[u8]) -> Result<[Label; DISKS], Refusal>
     requires { (disks ≤ most_disks) × (length slots.now ≡ slot_size * disks) }
     ensures refused { refusal_number result ≡ first_of (refusals_below disks disks blocks slots.now) }

@@ -32,7 +32,8 @@ fn own_disk(d: usize, set: Mask) -> bool
 }
 
 // What some labels say: whether each is fit by itself, the disks that their sets name, but for members, whose sets are
-// G and none, and the regions that are dirty.
+// G and none, and the regions that are dirty. `fit` is no Option round the rest: the loop goes over all labels anyway,
+// and without a branch.
 #[derive(Clone, Copy)]
 struct Survey {
     fit: bool,
