@@ -4,20 +4,30 @@
 // that the struct keeps the reference.
 #![tactic(auto)]
 
-ghost use Rattle.std.specs.Prelude.{◌≡◌, ◌*◌, ◌≤◌, ◌<◌, eqb, length, take, drop};
+ghost use Rattle.std.specs.Prelude.{◌≡◌, ◌*◌, ◌≤◌, ◌<◌, ◌+◌, eqb, length, take, drop};
 ghost use Rattle.buffers.specs.Buffers.{splice};
 ghost use Rattle.protocol.specs.Geometry.{most_disks, most_blocks, block_size, area_size, block, with_block};
 ghost use Rattle.protocol.specs.Geometry.{with_zero_disk};
 ghost use Rattle.area.specs.Parts.{InArea, InPart};
 
 use protocol::geometry::BLOCK_SIZE;
+use std::ops::Range;
 
-// Where disk d's part of the area starts. It ends where the next disk's starts.
+// Where disk d's part of the area starts.
 fn start(blocks: usize, d: usize) -> usize
     requires { (blocks ≤ most_blocks) × (d ≤ most_disks) }
     ensures { result ≡ d * blocks * block_size }
 {
     d * blocks * BLOCK_SIZE
+}
+
+// Disk d's part: it ends where the next disk's starts.
+fn part(blocks: usize, d: usize) -> Range<usize>
+    requires { (blocks ≤ most_blocks) × (d < most_disks) }
+    ensures start { result.start ≡ d * blocks * block_size }
+    ensures end { result.end ≡ (d + 1) * blocks * block_size }
+{
+    start(blocks, d)..start(blocks, d + 1)
 }
 
 // Block k of a disk's part.
@@ -44,9 +54,7 @@ pub fn load(area: &[u8], blocks: usize, d: usize, k: usize) -> [u8; BLOCK_SIZE]
     requires { InArea blocks d k area.now }
     ensures { result ≡ block blocks area.now d k }
 {
-    let from = start(blocks, d);
-    let to = start(blocks, d + 1);
-    load_block(&area[from..to], k)
+    load_block(&area[part(blocks, d)], k)
 }
 
 // The bytes as block k of disk d.
@@ -54,9 +62,7 @@ pub fn store(area: &mut [u8], blocks: usize, d: usize, k: usize, bytes: [u8; BLO
     requires { InArea blocks d k area.old }
     ensures { area.new ≡ with_block blocks area.old d k bytes }
 {
-    let from = start(blocks, d);
-    let to = start(blocks, d + 1);
-    store_block(&mut area[from..to], k, bytes);
+    store_block(&mut area[part(blocks, d)], k, bytes);
 }
 
 // All blocks of disk d zero.
@@ -64,9 +70,7 @@ pub fn zero_disk(area: &mut [u8], blocks: usize, d: usize)
     requires { InArea blocks d 0 area.old }
     ensures { area.new ≡ with_zero_disk blocks area.old d }
 {
-    let from = start(blocks, d);
-    let to = start(blocks, d + 1);
-    area[from..to].fill(0);
+    area[part(blocks, d)].fill(0);
 }
 
 // A block that is lent by itself.
@@ -94,8 +98,6 @@ pub fn to_slice(output: &mut [u8], bytes: [u8; BLOCK_SIZE])
 pub fn fits(disks: usize, blocks: usize, size: usize) -> bool
     ensures { result ≡ eqb size (area_size disks blocks) }
 {
-    let Some(count) = disks.checked_mul(blocks) else {
-        return false;
-    };
-    count.checked_mul(BLOCK_SIZE) == Some(size)
+    let count = disks.checked_mul(blocks);
+    count.and_then(|count| count.checked_mul(BLOCK_SIZE)) == Some(size)
 }

@@ -9,7 +9,7 @@ use label::{Label, Placed};
 use refusals::Refusal;
 
 // "the label's own refusal; 18, its number or n is not this slot's; 22, a dirty bit names no region"; of none of these,
-// the label.
+// the label. What was read is taken whole, so that the paragraph stands in one function.
 #[tactic(auto, using(refusals::proofs::Numbers::refuses), unfolding(refusals::specs::Refusals::first_of, protocol::specs::Bays::bay_refusals))]
 pub fn label_of_bay(
     d: usize,

@@ -16,7 +16,7 @@ pub fn wrong_disk_count(disks: usize) -> bool
 pub fn wrong_block_count(blocks: usize) -> bool
     ensures { result ≡ wrong_block_count blocks }
 {
-    (blocks < 1) | (MOST_BLOCKS < blocks)
+    !(1..=MOST_BLOCKS).contains(&blocks)
 }
 
 // How many regions so many blocks have; "the last may be short".

@@ -16,7 +16,7 @@ use sets::Mask;
 
 // The block on each disk of the set, ascending, while the power allows.
 pub fn store_blocks(
-    run: Run,
+    mut run: Run,
     area: &mut [u8],
     size: Size,
     set: Mask,
@@ -28,7 +28,6 @@ pub fn store_blocks(
         ≡ run_all size.blocks (for_each size.disks set (λ d. write d k bytes ∷ []))
         (progress run area.old) }
 {
-    let mut run = run;
     for d in 0..size.disks {
         if (run.left != 0) & sets::has(set, d) {
             area::store(area, size.blocks, d, k, bytes);
@@ -53,7 +52,7 @@ fn copy_block(run: Run, area: &mut [u8], size: Size, from: usize, set: Mask, k: 
 
 // The same of `count` blocks from `first` on, ascending.
 pub fn copy_blocks(
-    run: Run,
+    mut run: Run,
     area: &mut [u8],
     size: Size,
     from: usize,
@@ -67,22 +66,21 @@ pub fn copy_blocks(
         ≡ run_all size.blocks (ascending count (λ i. for_each size.disks set (λ d. copy from d (first + i) ∷ [])))
         (progress run area.old) }
 {
-    let mut run = run;
     for i in 0..count {
         run = copy_block(run, area, size, from, set, first + i);
     }
     run
 }
 
-// All blocks of one disk on another, ascending, while the power allows.
-pub fn copy_disk(run: Run, area: &mut [u8], size: Size, from: usize, to: usize) -> Run
+// All blocks of one disk on another, ascending, while the power allows. No case of `copy_blocks`, which asks that the
+// disk copied from is not in the set: here the two may be the same.
+pub fn copy_disk(mut run: Run, area: &mut [u8], size: Size, from: usize, to: usize) -> Run
     requires { Fits size.disks size.blocks area.old × (from < size.disks) × (to < size.disks) }
     ensures { progress result area.new
         ≡ run_all size.blocks (ascending size.blocks (λ k. copy from to k ∷ []))
         (progress run area.old) }
 {
     let blocks = size.blocks;
-    let mut run = run;
     for k in 0..blocks {
         if run.left != 0 {
             area::store(area, blocks, to, k, area::load(area, blocks, from, k));

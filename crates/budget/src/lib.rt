@@ -8,7 +8,7 @@ mod ending;
 mod starting;
 
 pub use ending::ended;
-pub use starting::{size_of, started};
+pub use starting::started;
 
 // A call under way: the labels so far, and how many stores the power still allows; the disk area is lent beside it. A
 // loop goes on when none is left and stores nothing, so no loop ends early. Stores stand in the loops themselves:

@@ -5,12 +5,14 @@ use crate::{Run, Size};
 use protocol::State;
 
 // n and b, as loops count.
-pub fn size_of(s: State) -> Size
-    ensures { result ≡ record { disks = s.disks; blocks = s.blocks } }
-{
-    Size {
-        disks: usize::from(s.disks),
-        blocks: usize::from(s.blocks),
+impl From<State> for Size {
+    ghost from_gives = { λ s size. size ≡ record { disks = s.disks; blocks = s.blocks } };
+
+    fn from(s: State) -> Size {
+        Size {
+            disks: usize::from(s.disks),
+            blocks: usize::from(s.blocks),
+        }
     }
 }
 

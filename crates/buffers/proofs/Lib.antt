@@ -1,2 +1,3 @@
 -- The laws of buffers.
+pub mod ByteLists
 pub mod Splicing

@@ -10,7 +10,7 @@ ghost use Rattle.protocol.specs.Calls.{clean_outcome};
 
 use crate::checks::clean_refusal;
 use crate::standing::Standing;
-use budget::{ended, size_of, started};
+use budget::{Size, ended, started};
 use dirty::dirty_regions;
 use protocol::{Answer, State};
 use state::refused;
@@ -23,7 +23,7 @@ fn clean_stores(s: State, budget: u16) -> Answer
     ensures { (area output : List ℕ) → yields result area output
         ≡ carry_out (clean_list s) budget s area output (runs_with (current_of s.power) s output) }
 {
-    let size = size_of(s);
+    let size = Size::from(s);
     // By a variable: the check follows no field that is an array straight into a literal.
     let labels = s.labels;
     let live = state::live(s);

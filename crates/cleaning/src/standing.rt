@@ -42,7 +42,8 @@ impl Standing {
         }
     }
 
-    // How many bits stand.
+    // How many bits stand. By a loop: an edit of it begins the count at 1, and `sum` over a closure asks of the proof
+    // that each run of that fits.
     pub(crate) fn count(&self) -> usize
         ensures { result
             ≡ length (ascending self.now.regions (clears_of self.now.disks self.now.labels self.now.set)) }
@@ -55,12 +56,11 @@ impl Standing {
     }
 
     // "for each region ascending, clear the bit on each disk of L, ascending, where it stands"
-    pub(crate) fn clear(&self, run: Run) -> Run
+    pub(crate) fn clear(&self, mut run: Run) -> Run
         ensures { (b : ℕ) (area : List ℕ) → progress result area
             ≡ run_all b (ascending self.now.regions (clears_of self.now.disks self.now.labels self.now.set))
             (progress run area) }
     {
-        let mut run = run;
         for r in 0..self.regions {
             run = changes::store_labels(run, self.disks, self.on(r), Change::Clear(r));
         }

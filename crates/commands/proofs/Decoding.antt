@@ -2,7 +2,8 @@
 use mathlib.Core.Path.{◌≡◌, refl, sym, ◌∙◌}
 use mathlib.Core.Bool.{Bool, true, false, cond, ◌&&◌, and-true, and-false, and_assoc}
 use mathlib.Core.List.{List, [], ◌∷◌, map, reverse, reverse_aux}
-use Prim.Native.Nat.{ℕ, suc}
+use mathlib.Core.Logic.{◌⊎◌, inl, inr}
+use Prim.Native.Nat.{ℕ, suc, ◌<◌}
 use native.Mathlib.Omega.{arith}
 use lib.Dec.{eqb, ltb, leb, eqb-suc-zero, eqb-suc-suc}
 use lib.ListN.{length}
@@ -11,6 +12,7 @@ use Rattle.sets.proofs.Tests.{Test, passes, fails, test, and_parts}
 use Rattle.decimal.specs.Numerals.{numeral_value, value_from}
 use Rattle.commands.specs.declared.Command.{Command}
 use Rattle.commands.specs.declared.Command.TheVariants.{Bad}
+use Rattle.commands.specs.declared.scanner.Scan.{Scan}
 use Rattle.commands.specs.Commands.{number_most, sized, words, are_digits, is_number}
 use Rattle.commands.specs.Commands.{are_numbers, command_with, command_of_words}
 use Rattle.commands.specs.Scanning.{initial_scan, within, word_ended, scanned, decoded}
@@ -86,6 +88,27 @@ same_either : (t : Bool) → cond t Bad Bad ≡ Bad
 same_either true = refl
 same_either false = refl
 
+-- a line with fewer or more words than any command has
+other_count : (s : Scan) → (s.words < 1) ⊎ (4 < s.words) → decoded s ≡ Bad
+unfolding decoded
+other_count s other =
+    rw (
+      ne_eqb s.words 1 (λ e. omega (arith, e, other)),
+      ne_eqb s.words 2 (λ e. omega (arith, e, other)),
+      ne_eqb s.words 3 (λ e. omega (arith, e, other)),
+      ne_eqb s.words 4 (λ e. omega (arith, e, other)),
+    )
+    (same_either s.valid)
+
+pub no_words : (s : Scan) → s.words < 1 → decoded s ≡ Bad
+no_words s few = other_count s (inl few)
+
+pub more_words : (s : Scan) → 4 < s.words → decoded s ≡ Bad
+more_words s many = other_count s (inr many)
+
+-- what the check needs to prove `decode`
+pub ruleset other_counts = (no_words, more_words)
+
 -- more words than any command has
 too_many : (done : List (List ℕ)) (a b c d e : List ℕ) (later : List (List ℕ))
     → command_of_words (reverse_aux done (a ∷ b ∷ c ∷ d ∷ e ∷ later)) ≡ Bad
@@ -124,14 +147,8 @@ decoded-words (w₃ ∷ w₂ ∷ w₁ ∷ w₀ ∷ []) =
       and_assoc (is_number w₁) (is_number w₂) (is_number w₃),
     )
 decoded-words (w₄ ∷ w₃ ∷ w₂ ∷ w₁ ∷ w₀ ∷ done) =
-    let n : ℕ = suc (suc (suc (suc (suc (length done))))) in
-    rw (
-      ne_eqb n 1 (λ e. omega (arith, e)),
-      ne_eqb n 2 (λ e. omega (arith, e)),
-      ne_eqb n 3 (λ e. omega (arith, e)),
-      ne_eqb n 4 (λ e. omega (arith, e)),
-    )
-    (same_either (scan_of (w₄ ∷ w₃ ∷ w₂ ∷ w₁ ∷ w₀ ∷ done) []).valid ∙ sym (too_many done w₀ w₁ w₂ w₃ w₄ []))
+    more_words (scan_of (w₄ ∷ w₃ ∷ w₂ ∷ w₁ ∷ w₀ ∷ done) []) (omega arith)
+    ∙ sym (too_many done w₀ w₁ w₂ w₃ w₄ [])
 
 -- one pass over a line finds the command of its words
 pub one_pass_decodes : (line : List ℕ) → decoded (word_ended (scanned initial_scan line))

@@ -7,7 +7,8 @@ use crate::scanner::Scan;
 use crate::{Command, Loan};
 use protocol::Call;
 
-// A call that stores no bytes of its own.
+// A call that takes no bytes. It is lent a block of zeros, as the definition has it, and no Option: no call then asks
+// for one.
 fn plain(call: Call) -> Command
     ensures { result ≡ Command.Perform call (Loan.Block 0) }
 {
@@ -17,88 +18,57 @@ fn plain(call: Call) -> Command
     }
 }
 
+// The command of a letter and its numbers: the list, in the order of `command_with`.
 #[tactic(auto, unfolding(crate::specs::Commands::command_with))]
-fn with_none(letter: u8) -> Command
-    ensures { result ≡ command_with letter [] }
+fn with(letter: u8, numbers: &[u16]) -> Command
+    ensures { result ≡ command_with letter numbers.now }
 {
-    match letter {
-        b'c' => plain(Call::PowerOff),
-        _ => Command::Bad,
-    }
-}
-
-#[tactic(auto, unfolding(crate::specs::Commands::command_with))]
-fn with_one(letter: u8, number: u16) -> Command
-    ensures { result ≡ command_with letter (number ∷ []) }
-{
-    match letter {
-        b'x' => plain(Call::Detach {
-            disk: number as usize,
+    match (letter, numbers) {
+        (b'c', &[]) => plain(Call::PowerOff),
+        (b'x', &[disk]) => plain(Call::Detach {
+            disk: usize::from(disk),
         }),
-        b'r' => Command::Perform {
+        (b'r', &[disk]) => Command::Perform {
             call: Call::Attach {
-                disk: number as usize,
+                disk: usize::from(disk),
             },
-            loan: Loan::StoredLabel(number as usize),
+            loan: Loan::StoredLabel(usize::from(disk)),
         },
-        b'q' => plain(Call::Clean { budget: number }),
-        b's' => plain(Call::Restart { budget: number }),
-        _ => Command::Bad,
-    }
-}
-
-#[tactic(auto, unfolding(crate::specs::Commands::command_with))]
-fn with_two(letter: u8, first: u16, second: u16) -> Command
-    ensures { result ≡ command_with letter (first ∷ second ∷ []) }
-{
-    match letter {
-        b'f' => Command::Format {
-            disks: first,
-            blocks: second,
-        },
-        b'j' => plain(Call::Join {
-            disk: first as usize,
-            budget: second,
+        (b'q', &[budget]) => plain(Call::Clean { budget }),
+        (b's', &[budget]) => plain(Call::Restart { budget }),
+        (b'f', &[disks, blocks]) => Command::Format { disks, blocks },
+        (b'j', &[disk, budget]) => plain(Call::Join {
+            disk: usize::from(disk),
+            budget,
         }),
-        b'g' => plain(Call::Read {
-            block: first as usize,
-            budget: second,
+        (b'g', &[block, budget]) => plain(Call::Read {
+            block: usize::from(block),
+            budget,
         }),
-        _ => Command::Bad,
-    }
-}
-
-// "`w k v p` write a block of 64 bytes v (at most 255)"
-#[tactic(auto, unfolding(crate::specs::Commands::command_with))]
-fn with_three(letter: u8, block: u16, value: u16, budget: u16) -> Command
-    ensures { result ≡ command_with letter (block ∷ value ∷ budget ∷ []) }
-{
-    match (letter, u8::try_from(value)) {
-        (b'w', Ok(byte)) => Command::Perform {
-            call: Call::Write {
-                block: block as usize,
-                budget,
+        // "write a block of 64 bytes v (at most 255)"
+        (b'w', &[block, value, budget]) => match u8::try_from(value) {
+            Ok(byte) => Command::Perform {
+                call: Call::Write {
+                    block: usize::from(block),
+                    budget,
+                },
+                loan: Loan::Block(byte),
             },
-            loan: Loan::Block(byte),
+            Err(_) => Command::Bad,
         },
         _ => Command::Bad,
     }
 }
 
 // The command of a line whose last word has ended.
-#[tactic(auto, unfolding(crate::specs::Scanning::decoded))]
+#[tactic(auto, using(crate::proofs::Decoding::other_counts), unfolding(crate::specs::Scanning::decoded))]
 pub fn decode(scan: Scan) -> Command
     ensures { result ≡ decoded scan }
 {
-    if scan.valid {
-        match scan.words {
-            1 => with_none(scan.letter),
-            2 => with_one(scan.letter, scan.last),
-            3 => with_two(scan.letter, scan.second, scan.last),
-            4 => with_three(scan.letter, scan.third, scan.second, scan.last),
-            _ => Command::Bad,
-        }
-    } else {
-        Command::Bad
+    // A command is a letter and at most three numbers. Of these the last are the line's, one less than it has words.
+    let numbers = [scan.third, scan.second, scan.last];
+    match scan.words {
+        1..=4 if scan.valid => with(scan.letter, &numbers[4 - scan.words..]),
+        _ => Command::Bad,
     }
 }

@@ -5,8 +5,9 @@ ghost use Rattle.commands.specs.Scanning.{initial_scan, grown, fits, within, wor
 ghost use Rattle.commands.specs.Scanning.{letter_with, byte_read, stepped, scanned};
 
 // How far a line has been read: the byte that its first word has; how many words have ended, and the last three of
-// them as numbers, the latest last; the length and the value of the word under way; and whether every word so far is
-// what a command may have there: a flag and no Option, since `scanned` goes on to the line's end all the same.
+// them as numbers, the latest last: three fields and no array, since `scanned` and the theorems over it name them; the
+// length and the value of the word under way; and whether every word so far is what a command may have there: a flag
+// and no Option, since `scanned` goes on to the line's end all the same.
 #[derive(Clone, Copy)]
 pub struct Scan {
     pub letter: u8,
@@ -19,7 +20,10 @@ pub struct Scan {
     pub valid: bool,
 }
 
-// "at most 65,535"
+// "1 to 5 digits"
+const NUMBER_DIGITS: usize = 5;
+
+// "at most 65,535"; by `as`, since a constant's value calls no `from`
 const NUMBER_MOST: u32 = u16::MAX as u32;
 
 impl Scan {
@@ -128,7 +132,7 @@ impl Scan {
         if self.words == 0 {
             self.bytes == 1
         } else {
-            0 < self.bytes && self.bytes <= 5 && self.value <= NUMBER_MOST
+            (1..=NUMBER_DIGITS).contains(&self.bytes) && self.value <= NUMBER_MOST
         }
     }
 }

@@ -4,6 +4,7 @@ use Rattle.shell.specs.declared.Shell.{Shell}
 use Rattle.shell.specs.Dialogue.{Dialogue, dialogue, initial}
 use Rattle.program.specs.Reads.{count_read, after_read, printed_read, goes_on}
 use Rattle.program.specs.Rounds.{Round, after_rounds, AllGoOn}
+use Rattle.console.specs.declared.Program.{Program}
 use Rattle.console.specs.declared.Served.{Served}
 
 -- What may be handed to the writer: all that is collected, which is what a read printed that left this state.
@@ -23,21 +24,20 @@ round_of last block = record { got = count_read last.got; block = block; written
 
 -- So many reads were made: each but the last is followed by another, and what is left is what they leave, one after the
 -- other. The last is the one that is handed back, with the block that it filled.
-pub record Made (reads : ℕ) (memory₀ : List ℕ) (shell : Shell) (last : Served) (block memory : List ℕ) : Type 0 where
+pub record Made (reads : ℕ) (memory₀ : List ℕ) (program : Program) (last : Served) : Type 0 where
   pub earlier : List Round
   pub count : length earlier + 1 ≡ reads
   pub go_on : AllGoOn earlier
-  pub left : dialogue shell memory ≡ after_rounds (earlier ++ (round_of last block ∷ [])) (initial memory₀)
+  pub left : dialogue program.shell program.memory
+      ≡ after_rounds (earlier ++ (round_of last program.block ∷ [])) (initial memory₀)
 
 -- A run ends at the first read that no other is to follow, or when it has made the most reads.
-pub record Ran (memory₀ : List ℕ) (shell : Shell) (last : Served) (block memory : List ℕ) : Type 0 where
+pub record Ran (memory₀ : List ℕ) (program : Program) (last : Served) : Type 0 where
   pub reads : ℕ
-  pub made : Made reads memory₀ shell last block memory
+  pub made : Made reads memory₀ program last
   pub ends : (goes_on (count_read last.got) last.written ≡ false) ⊎ (reads ≡ most_reads)
 
 -- The reads that follow one: where none is to follow, none is made, and nothing changes.
-pub record Followed (first : Served) (shell₀ : Shell) (block₀ memory₀ out₀ : List ℕ)
-    (last : Served) (shell : Shell) (block memory out : List ℕ) : Type 0 where
-  pub none : goes_on (count_read first.got) first.written ≡ false
-      → (last ≡ first) × (shell ≡ shell₀) × (block ≡ block₀) × (memory ≡ memory₀) × (out ≡ out₀)
-  pub some : (start : List ℕ) → Made 1 start shell₀ first block₀ memory₀ → Ran start shell last block memory
+pub record Followed (first : Served) (program₀ : Program) (last : Served) (program : Program) : Type 0 where
+  pub none : goes_on (count_read first.got) first.written ≡ false → (last ≡ first) × (program ≡ program₀)
+  pub some : (start : List ℕ) → Made 1 start program₀ first → Ran start program last

@@ -6,7 +6,6 @@ ghost use Rattle.buffers.specs.Buffers.{splice};
 ghost use Rattle.protocol.specs.Geometry.{most_disks, most_blocks, area_size};
 ghost use Rattle.shell.specs.Dialogue.{dialogue, initial};
 ghost use Rattle.program.specs.Reads.{count_read, after_read, printed_read};
-ghost use Rattle.console.specs.Buffers.{Room};
 ghost use Rattle.console.specs.Runs.{Replies, Followed, Ran};
 
 use program::goes_on;
@@ -34,7 +33,8 @@ struct Served {
     written: bool,
 }
 
-// What a read gave: how many bytes, none at the end of the input, or `None` where it failed.
+// What a read gave: how many bytes, none at the end of the input, or `None` where it failed. A function, since its
+// clause says what becomes of an error: an edit that takes one for the end of the input is refused there.
 fn count_of(read: io::Result<usize>) -> Option<usize>
     ensures { MatchResult read (λ n. result ≡ Some n) (λ _. result ≡ None) }
 {
@@ -61,72 +61,73 @@ fn answer(rt: &HostRuntime, got: Option<usize>, shell: &mut Shell, said: &[u8]) 
     }
 }
 
-// One read, and the replies to what came, so that a person who types has them before the next read.
-fn serve_once(
-    rt: &HostRuntime,
-    shell: &mut Shell,
-    block: &mut [u8],
-    memory: &mut [u8],
-    out: &mut [u8],
-) -> Served
-    requires { (shell.old.used ≡ 0) × Room block.old out.old }
-    ensures dialogue { dialogue shell.new memory.new
-        ≡ after_read (count_read result.got) block.new (dialogue shell.old memory.old) }
-    ensures output { out.new
-        ≡ splice 0 (printed_read (count_read result.got) block.new (dialogue shell.old memory.old))
-        out.old }
-    ensures room { shell.new.used ≡ 0 }
-{
-    let got = count_of(rt.stdin().read(block));
-    program::hear(got, block, shell, memory, out);
-    let said = &out[..shell.used];
-    answer(rt, got, shell, said)
+// What the program holds from read to read: the shell, the block that a read fills, the disk area, and the replies. It
+// is made in `main`, which alone owns it, so that it is not copied: `out` has more bytes than all else.
+#[derive(Drop)]
+struct Program {
+    shell: Shell,
+    block: [u8; BLOCK],
+    memory: [u8; MEMORY],
+    out: [u8; OUTPUT],
 }
 
-// The reads that follow one; none, where none is to follow. Their number only lets the proof see an end: at a read each
-// nanosecond it would be reached in 584 years.
-fn read_on(
-    rt: &HostRuntime,
-    first: Served,
-    shell: &mut Shell,
-    block: &mut [u8],
-    memory: &mut [u8],
-    out: &mut [u8],
-) -> Served
-    requires { (shell.old.used ≡ 0) × Room block.old out.old }
-    ensures { Followed first shell.old block.old memory.old out.old
-        result shell.new block.new memory.new out.new }
-{
-    let mut last = first;
-    for _ in 0..u64::MAX - 1 {
-        if !goes_on(last.got, last.written) {
-            break;
-        }
-        last = serve_once(rt, shell, block, memory, out);
+impl Program {
+    // One read, and the replies to what came, so that a person who types has them before the next read.
+    fn serve_once(&mut self, rt: &HostRuntime) -> Served
+        requires { self.old.shell.used ≡ 0 }
+        ensures dialogue { dialogue self.new.shell self.new.memory
+            ≡ after_read (count_read result.got) self.new.block (dialogue self.old.shell self.old.memory) }
+        ensures output { self.new.out
+            ≡ splice 0
+            (printed_read (count_read result.got) self.new.block (dialogue self.old.shell self.old.memory))
+            self.old.out }
+        ensures room { self.new.shell.used ≡ 0 }
+    {
+        let got = count_of(rt.stdin().read(&mut self.block));
+        program::hear(
+            got,
+            &self.block,
+            &mut self.shell,
+            &mut self.memory,
+            &mut self.out,
+        );
+        let said = &self.out[..self.shell.used];
+        answer(rt, got, &mut self.shell, said)
     }
-    last
-}
 
-#[tactic(auto, using(crate::proofs::Runs::first_made))]
-fn run(
-    rt: &HostRuntime,
-    shell: &mut Shell,
-    block: &mut [u8],
-    memory: &mut [u8],
-    out: &mut [u8],
-) -> Served
-    requires { (dialogue shell.old memory.old ≡ initial memory.old) × (shell.old.used ≡ 0)
-        × Room block.old out.old }
-    ensures { Ran memory.old shell.new result block.new memory.new }
-{
-    let first = serve_once(rt, shell, block, memory, out);
-    read_on(rt, first, shell, block, memory, out)
+    // The reads that follow one; none, where none is to follow. Their number only lets the proof see an end: at a read
+    // each nanosecond it would be reached in 584 years.
+    fn read_on(&mut self, rt: &HostRuntime, first: Served) -> Served
+        requires { self.old.shell.used ≡ 0 }
+        ensures { Followed first self.old result self.new }
+    {
+        let mut last = first;
+        for _ in 0..u64::MAX - 1 {
+            if !goes_on(last.got, last.written) {
+                break;
+            }
+            last = self.serve_once(rt);
+        }
+        last
+    }
+
+    #[tactic(auto, using(crate::proofs::Runs::first_made))]
+    fn run(&mut self, rt: &HostRuntime) -> Served
+        requires { (dialogue self.old.shell self.old.memory ≡ initial self.old.memory)
+            × (self.old.shell.used ≡ 0) }
+        ensures { Ran self.old.memory self.new result }
+    {
+        let first = self.serve_once(rt);
+        self.read_on(rt, first)
+    }
 }
 
 fn main(rt: HostRuntime) {
-    let mut shell = Shell::new();
-    let mut block = [0u8; BLOCK];
-    let mut memory = largest_area();
-    let mut out = [0u8; OUTPUT];
-    run(&rt, &mut shell, &mut block, &mut memory, &mut out);
+    let mut program = Program {
+        shell: Shell::new(),
+        block: [0; BLOCK],
+        memory: largest_area(),
+        out: [0; OUTPUT],
+    };
+    program.run(&rt);
 }

@@ -18,6 +18,6 @@ pub(crate) fn stage_asked(s: State, stage: usize, d: usize) -> Result<Stage, Ref
 {
     Refusal::Unsound.when(!sound(s))?;
     Refusal::Running.when(is_running(s.power))?;
-    Refusal::NoSuchDisk.when(s.disks as usize <= d)?;
+    Refusal::NoSuchDisk.when(usize::from(s.disks) <= d)?;
     Stage::try_from(stage)
 }

@@ -1,5 +1,5 @@
 // Diagnose.
-ghost use Rattle.std.specs.Prelude.{◌≡◌, ◌<◌};
+ghost use Rattle.std.specs.Prelude.{◌≡◌, ◌<◌, ℕ};
 ghost use Rattle.protocol.specs.Diagnosis.{own_set, set_without, stage_numbered, diagnosed, diagnosis};
 ghost use Rattle.protocol.specs.Soundness.{Sound};
 ghost use Rattle.naming.specs.Meaning.{found_of};
@@ -35,18 +35,12 @@ fn set_without(d: usize, found: Naming) -> Mask
 }
 
 // What is said of a disk that there is, by the labels of a sound state.
-fn diagnosed(s: State, stage: Stage, number: usize, d: usize) -> Diagnosis
-    requires { Sound s × (d < s.disks) × (stage_of stage ≡ stage_numbered number) }
-    ensures { result ≡ diagnosed s number d }
+fn diagnosed(s: State, stage: Stage, d: usize) -> Diagnosis
+    requires { Sound s × (d < s.disks) }
+    ensures { (number : ℕ) → stage_of stage ≡ stage_numbered number → result ≡ diagnosed s number d }
 {
-    // By a variable: the check follows no field that is an array straight into a literal.
-    let labels = s.labels;
-    let view = View {
-        disks: s.disks as usize,
-        online: s.online,
-        labels,
-    };
-    let reason = view.reason_for(stage, own_set(labels[d]));
+    let view = View::of(s);
+    let reason = view.reason_for(stage, own_set(s.labels[d]));
     Diagnosis {
         refusal: 0,
         reason,
@@ -60,7 +54,7 @@ pub fn diagnose(s: State, stage: usize, d: usize) -> Diagnosis
     ensures { result ≡ diagnosis s stage d }
 {
     match stage_asked(s, stage, d) {
-        Ok(asked) => diagnosed(s, asked, stage, d),
+        Ok(asked) => diagnosed(s, asked, d),
         Err(refusal) => Diagnosis {
             refusal: refusal.number(),
             reason: Reason::NoReason,

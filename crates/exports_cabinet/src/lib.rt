@@ -1,5 +1,6 @@
 // The calls on the cabinet itself, for programs in C and Rust: it is made, started and stopped, its disks are lost and
-// return, and it is asked why a disk is not current. `exports_c` exports the functions.
+// return, and it is asked why a disk is not current. `exports_c` exports them, with their text again: nothing can stand
+// on a static library. So they have C's form here too.
 #![tactic(auto, unfolding(flat::specs::Flat::flat_outcome))]
 
 ghost use Rattle.std.specs.Prelude.{◌≡◌, List, ℕ};

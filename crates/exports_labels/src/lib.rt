@@ -1,5 +1,6 @@
 // Document 01's calls on labels, for programs in C and Rust: a cabinet's are saved to slots and assembled from them, a
-// single one is read and written. `exports_c` exports the functions.
+// single one is read and written. `exports_c` exports them, with their text again: nothing can stand on a static
+// library. So they have C's form here too.
 #![tactic(auto, unfolding(flat::specs::Flat::flat_outcome))]
 
 ghost use Rattle.std.specs.Prelude.{◌≡◌, List, ℕ, length};

@@ -1,5 +1,6 @@
 // The calls on a running cabinet, for programs in C and Rust: blocks are read and written, a disk joins or is swapped
-// for a blank one, dirty bits are cleared. `exports_c` exports the functions.
+// for a blank one, dirty bits are cleared. `exports_c` exports them, with their text again: nothing can stand on a
+// static library. So they have C's form here too.
 #![tactic(auto, unfolding(flat::specs::Flat::flat_outcome))]
 
 ghost use Rattle.std.specs.Prelude.{◌≡◌, List, ℕ};

@@ -30,9 +30,8 @@ impl View {
         ensures { result ≡ holders (stage_of stage) self.now.labels x }
     {
         match stage {
-            Stage::First => backing,
+            Stage::First | Stage::Third => backing,
             Stage::Second => self.backers(Stage::First, x),
-            Stage::Third => backing,
         }
     }
 

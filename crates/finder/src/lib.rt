@@ -6,6 +6,7 @@ ghost use Rattle.std.specs.Prelude.{◌^◌, ◌≤◌, ◌<◌};
 ghost use Rattle.protocol.specs.Geometry.{most_disks};
 
 use label::Label;
+use protocol::State;
 use sets::{DISKS, Mask};
 
 mod candidates;
@@ -29,4 +30,25 @@ pub struct View {
     pub online: Mask,
     pub labels: [Label; DISKS],
     ghost within: { (disks ≤ most_disks) × (online < 2 ^ disks) },
+}
+
+impl View {
+    ghost use Rattle.std.specs.Prelude.{◌≡◌};
+    ghost use Rattle.protocol.specs.Soundness.{Sound};
+
+    // What a restart of this state looks at.
+    pub fn of(s: State) -> Self
+        requires { Sound s }
+        ensures disks { result.disks ≡ s.disks }
+        ensures online { result.online ≡ s.online }
+        ensures labels { result.labels ≡ s.labels }
+    {
+        // By a variable: the check follows no field that is an array straight into a literal.
+        let labels = s.labels;
+        View {
+            disks: usize::from(s.disks),
+            online: s.online,
+            labels,
+        }
+    }
 }

@@ -19,7 +19,8 @@ impl View {
     }
 
     // "list for each stage at most n sets to test": those of the disks, ascending, each once. By the `min` compiled
-    // code knows that there are no more than eight, and the disk in each iteration.
+    // code knows that there are no more than eight, and the disk in each iteration. `&`, since by `&&` a restart took
+    // 5% longer.
     #[tactic(auto, unfolding(protocol::specs::Finder::shortlist, protocol::specs::Loops::ascending))]
     pub(crate) fn shortlist(&self, stage: Stage) -> SetList
         ensures { listed result ≡ shortlist (stage_of stage) self.now.disks self.now.labels }

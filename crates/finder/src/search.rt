@@ -10,7 +10,7 @@ ghost use Rattle.finder.specs.Found.{another};
 
 use crate::{Stage, View};
 use naming::{Naming, Unnamed};
-use sets::{DISKS, Mask};
+use sets::Mask;
 
 // One candidate more, be it a set that was found before.
 #[tactic(auto, unfolding(crate::specs::Found::another))]
@@ -19,8 +19,7 @@ fn another(found: Naming, x: Mask) -> Naming
 {
     match found {
         Err(Unnamed::Nothing) => Ok(x),
-        Ok(_) => Err(Unnamed::Several),
-        Err(Unnamed::Several) => Err(Unnamed::Several),
+        Ok(_) | Err(Unnamed::Several) => Err(Unnamed::Several),
     }
 }
 
@@ -48,15 +47,14 @@ impl View {
         self.found_among(stage, self.shortlist(stage).as_slice())
     }
 
-    // The disks that are in any T. Mostly there is none, and then the first two stages have nothing to test. By number,
-    // as each loop over all eight labels, so that compiled code knows the disk.
+    // The disks that are in any T. Mostly there is none, and then the first two stages have nothing to test.
     #[tactic(auto, unfolding(protocol::specs::Loops::union_below))]
     fn proposals(&self) -> Mask
         ensures { result ≡ union_below most_disks (tentative_at self.now.labels) }
     {
         let mut set = 0;
-        for d in 0..DISKS {
-            set = sets::union(set, self.labels[d].tentative);
+        for label in &self.labels {
+            set = sets::union(set, label.tentative);
         }
         set
     }

@@ -5,7 +5,8 @@ ghost use Rattle.protocol.specs.Geometry.{most_disks};
 use sets::{DISKS, Mask};
 
 // The first `count` of the sets. No Vec, since nothing here allocates; no fixed vector of the kit's, since that crate
-// would be one more to trust.
+// would be one more to trust; no `ByteList`, since a set need not be a byte, and that one drops what it has no room
+// for.
 #[derive(Clone, Copy)]
 pub(crate) struct SetList {
     sets: [Mask; DISKS],

@@ -48,8 +48,7 @@ impl Stage {
         ensures { result ≡ tried (stage_of self) l }
     {
         match self {
-            Stage::First => l.tentative,
-            Stage::Second => l.tentative,
+            Stage::First | Stage::Second => l.tentative,
             Stage::Third => l.committed,
         }
     }

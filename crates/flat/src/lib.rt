@@ -58,15 +58,13 @@ impl From<FlatState> for State {
 
     #[tactic(auto, unfolding(crate::specs::Flat::opened))]
     fn from(flat: FlatState) -> State {
-        // By a variable: the check follows no field that is an array straight into a literal.
-        let labels = flat.labels;
-        State {
-            disks: flat.disks,
-            blocks: flat.blocks,
-            labels,
-            online: flat.online,
-            power: power_of(flat.current),
-        }
+        state::state_of(
+            flat.disks,
+            flat.blocks,
+            flat.labels,
+            flat.online,
+            power_of(flat.current),
+        )
     }
 }
 
@@ -75,6 +73,7 @@ impl From<State> for FlatState {
 
     #[tactic(auto, unfolding(crate::specs::Flat::flat_state))]
     fn from(state: State) -> FlatState {
+        // By a variable: the check follows no field that is an array straight into a literal.
         let labels = state.labels;
         FlatState {
             labels,

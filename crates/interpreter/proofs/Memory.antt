@@ -5,7 +5,7 @@ use Prim.Native.Nat.{ℕ, min, ◌+◌, ◌≤◌, ◌<◌}
 use native.Mathlib.Omega.{arith}
 use lib.Dec.{ltb}
 use lib.ListN.{length, take, drop, get_or, replicate, length-take, length-drop, take-append-drop, drop_of_length-le}
-use lib.Seq.{take_all, take-append-le, drop-append-le, length-take-le}
+use lib.Seq.{take_all, take-append-le, drop-append-le}
 use borrow.Author.Tests.{ltb-true, ltb-false}
 use Rattle.sets.proofs.Tests.{Test, test, passes, fails}
 use Rattle.protocol.specs.declared.Answer.{Answer}
@@ -38,9 +38,6 @@ module _ (size : ℕ) (memory : List ℕ) where
             take_all end memory (omega arith) ∙ sym (take_all size memory h),
             drop_of_length-le memory {i = end} (omega arith) ∙ sym (drop_of_length-le memory h),
           )
-
-  pub lent_length : (end : ℕ) → end ≡ min size (length memory) → end ≡ length (take end memory)
-  lent_length end e = sym (length-take-le end memory (omega (arith, e)))
 
 -- a block of the disk area is where it was, in a memory that has the area at its front
 pub block_in_memory : (n b : ℕ) (memory : List ℕ) → length (take (area_size n b) memory) ≡ area_size n b

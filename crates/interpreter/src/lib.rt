@@ -9,7 +9,7 @@ ghost use Rattle.interpreter.specs.Execution.{format_executed, call_executed, ex
 use commands::{Command, Loan};
 use lending::lend;
 use protocol::geometry::BLOCK_SIZE;
-use protocol::{Call, State};
+use protocol::{Answer, Call, State};
 use refusals::Refusal;
 use replies::Reply;
 
@@ -21,18 +21,18 @@ mod lending;
 fn area_end(disks: u16, blocks: u16, most: usize) -> usize
     ensures { result ≡ min (area_size disks blocks) most }
 {
-    (disks as usize * blocks as usize * BLOCK_SIZE).min(most)
+    (usize::from(disks) * usize::from(blocks) * BLOCK_SIZE).min(most)
 }
 
 #[tactic(auto, unfolding(crate::specs::Execution::reply_to))]
-fn reply_to(number: u8, stores: u16, s: State, byte: u8) -> Reply
-    ensures { result ≡ reply_to number stores s byte }
+fn reply_to(answer: Answer, byte: u8) -> Reply
+    ensures { result ≡ reply_to answer.refusal answer.stores answer.state byte }
 {
     Reply {
-        result: number,
-        stores,
-        current: state::current(s.power),
-        online: s.online,
+        result: answer.refusal,
+        stores: answer.stores,
+        current: state::current(answer.state.power),
+        online: answer.state.online,
         byte,
     }
 }
@@ -43,19 +43,26 @@ fn format(disks: u16, blocks: u16, state: &mut State, memory: &mut [u8]) -> Repl
         ≡ format_executed disks blocks (machine_of state.old memory.old) }
 {
     let end = area_end(disks, blocks, memory.len());
-    let answer = cabinet::format(disks as usize, blocks as usize, &mut memory[..end]);
-    let done = answer.refusal == 0;
-    if done {
+    let answer = cabinet::format(usize::from(disks), usize::from(blocks), &mut memory[..end]);
+    if answer.refusal == 0 {
         *state = answer.state;
     }
-    reply_to(answer.refusal, answer.stores, *state, 0)
+    let kept = Answer {
+        state: *state,
+        ..answer
+    };
+    reply_to(kept, 0)
 }
 
 // A call on the cabinet. The output stays zero unless a read is done.
 fn perform(call: Call, loan: Loan, state: &mut State, memory: &mut [u8]) -> Reply
     ensures { executed_to state.new memory.new result ≡ call_executed call loan (machine_of state.old memory.old) }
 {
-    let end = area_end(state.disks as u16, state.blocks as u16, memory.len());
+    let end = area_end(
+        u16::from(state.disks),
+        u16::from(state.blocks),
+        memory.len(),
+    );
     let lent = lend(loan, *state);
     let mut output = [0u8; BLOCK_SIZE];
     let answer = cabinet::apply(
@@ -66,7 +73,7 @@ fn perform(call: Call, loan: Loan, state: &mut State, memory: &mut [u8]) -> Repl
         &mut output,
     );
     *state = answer.state;
-    reply_to(answer.refusal, answer.stores, answer.state, output[0])
+    reply_to(answer, output[0])
 }
 
 // What a command does to the state, and to the memory, which holds the disk area at its front; and its reply.
@@ -77,6 +84,6 @@ pub fn execute(command: Command, state: &mut State, memory: &mut [u8]) -> Reply
     match command {
         Command::Format { disks, blocks } => format(disks, blocks, state, memory),
         Command::Perform { call, loan } => perform(call, loan, state, memory),
-        Command::Bad => reply_to(Refusal::BadLine.number(), 0, *state, 0),
+        Command::Bad => reply_to(state::refused(*state, Refusal::BadLine), 0),
     }
 }

@@ -25,6 +25,8 @@ pub struct Label {
     pub dirty: RegionMap,
 }
 
+// The two below only name what the derives give: their edits, as `blank_dirty` and `same_by_any_field`, are mistakes
+// that a derived function has no text for.
 pub fn blank() -> Label
     ensures { result ≡ blank }
 {
@@ -103,9 +105,10 @@ impl From<Result<usize, Refusal>> for Written {
     }
 }
 
-// How the labels of one kind of cabinet are written: how many bytes a set has, what stands in the map from bit 3 up,
-// what is taken off n, and the largest n. Reader and writer take it by value: a form is a module with a constant and
-// two functions that name it.
+// How the labels of one kind of cabinet are written: how many bytes a set has (one or two; a number, since lengths are
+// counted with it), what stands in the map from bit 3 up, what is taken off n, and the largest n. Reader and writer
+// take it by value: a form is a module with a constant and two functions that name it. What they ask of it, `Coded`, is
+// no invariant of the type: `outside` answers of any form, and so do the laws of label bytes.
 #[derive(Clone, Copy)]
 pub struct Form {
     pub width: usize,

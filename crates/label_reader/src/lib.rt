@@ -23,12 +23,13 @@ fn number_at(bytes: &[u8], width: usize, at: usize) -> u16
     requires { (1 ≤ width) × (width ≤ 2) × (at < 16) }
     ensures { result ≡ from_little_endian width (drop at bytes.now) }
 {
-    let low = byte_at(bytes, at) as u16;
-    if width == 1 {
-        low
+    let low = byte_at(bytes, at);
+    let high = if width == 1 {
+        0
     } else {
-        low + 256 * byte_at(bytes, at + 1) as u16
-    }
+        byte_at(bytes, at + 1)
+    };
+    u16::from_le_bytes([low, high])
 }
 
 // The field at a place whose bit of the map is given, 0 where that does not stand.
@@ -66,7 +67,7 @@ fn empty_field(map: u8, label: Label) -> bool
         | ((map / 4 % 2 == 1) & (label.dirty == 0))
 }
 
-// The label of these parts, found in `length` bytes.
+// The label of these parts, found in `length` bytes; apart, as the definition takes them.
 #[tactic(auto, unfolding(refusals::specs::Refusals::first_of, label::specs::Reading::read_refusals, label::specs::Reading::read_refusal, label::specs::Reading::judged))]
 fn judge(
     form: Form,
@@ -100,8 +101,8 @@ pub fn read_as(form: Form, bytes: &[u8]) -> Result<Placed, Refusal>
 {
     let map = byte_at(bytes, 0);
     let place = byte_at(bytes, 1);
-    let number = (place % 16) as usize;
-    let disks = (place / 16) as usize + form.base;
+    let number = usize::from(place % 16);
+    let disks = usize::from(place / 16) + form.base;
     let label = fields(form, bytes, map);
     judge(form, bytes.len(), map, number, disks, label)
 }

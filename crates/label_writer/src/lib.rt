@@ -1,4 +1,5 @@
-// Writing a label as bytes.
+// Writing a label as bytes. Number, n and label stay three parameters: C hands them on apart, each definition takes
+// them apart, and a struct would be made at each call to be taken apart in the next.
 #![tactic(auto)]
 
 ghost use Rattle.std.specs.Prelude.{◌≡◌, ◌+◌, ◌*◌, ◌≤◌, ◌<◌, length};
@@ -25,7 +26,7 @@ fn map_byte(form: Form, label: Label) -> u8
 {
     let committed = present(sets::number(label.committed));
     let tentative = present(sets::number(label.tentative));
-    let dirty = present(label.dirty as u16);
+    let dirty = present(u16::from(label.dirty));
     form.fixed * 8 + (committed + 2 * tentative + 4 * dirty)
 }
 
@@ -48,7 +49,8 @@ fn write_refusal(
     Refusal::NoRoom.when(room < needed)
 }
 
-// Stores a field of one byte or two at a place if it is present, low byte first, and gives the place behind it.
+// Stores a field of one byte or two at a place if it is present, low byte first, and gives the place behind it. Output
+// and place are two, since `Stored` also says what stays in front of the place.
 fn put_field(out: &mut [u8], at: usize, width: usize, field: u16) -> usize
     requires { (1 ≤ width) × (width ≤ 2) × (at + length (field_bytes width field) ≤ length out.old) }
     ensures { Stored at (field_bytes width field) out.old result out.new }
@@ -56,11 +58,12 @@ fn put_field(out: &mut [u8], at: usize, width: usize, field: u16) -> usize
     if field == 0 {
         return at;
     }
-    out[at] = (field % 256) as u8;
+    let [low, high] = field.to_le_bytes();
+    out[at] = low;
     if width == 1 {
         return at + 1;
     }
-    out[at + 1] = (field / 256) as u8;
+    out[at + 1] = high;
     at + 2
 }
 
@@ -74,7 +77,7 @@ fn put(form: Form, out: &mut [u8], number: usize, disks: usize, label: Label) ->
     out[1] = (number + 16 * (disks - form.base)) as u8;
     let second = put_field(out, 2, form.width, sets::number(label.committed));
     let third = put_field(out, second, form.width, sets::number(label.tentative));
-    put_field(out, third, 1, label.dirty as u16)
+    put_field(out, third, 1, u16::from(label.dirty))
 }
 
 // Gives the label's length.

@@ -16,7 +16,7 @@ pub(crate) fn reach_refusal(s: State, d: usize) -> Result<(), Refusal>
     ensures { refusal_number result ≡ first_of (reach_refusals s d) }
 {
     Refusal::Unsound.when(!sound(s))?;
-    Refusal::NoSuchDisk.when(s.disks as usize <= d)
+    Refusal::NoSuchDisk.when(usize::from(s.disks) <= d)
 }
 
 // "label reading's refusals in their order, then 18 where its number or n is not this bay's, 22, then 25"
@@ -26,7 +26,7 @@ fn shown_refusal(s: State, d: usize, shown: &[u8]) -> Result<(), Refusal>
     ensures { refusal_number result ≡ first_of (shown_refusals s d shown.now) }
 {
     let read = label_form::read(shown);
-    let label = label_of_bay(d, s.disks as usize, s.blocks as usize, read)?;
+    let label = label_of_bay(d, usize::from(s.disks), usize::from(s.blocks), read)?;
     Refusal::OtherLabel.when(!label::same(label, s.labels[d]))
 }
 

@@ -41,7 +41,7 @@ pub fn move_to_live(run: Run, s: State) -> Run
     if all_live(s) {
         return run;
     }
-    move_to(run, s.disks as usize, live(s))
+    move_to(run, usize::from(s.disks), live(s))
 }
 
 // How many stores a move has.
@@ -67,6 +67,6 @@ pub fn moved_to_live(s: State, budget: u16) -> Answer
 {
     let live = live(s);
     let stores = move_length(live);
-    let run = move_to(started(s, budget), s.disks as usize, live);
+    let run = move_to(started(s, budget), usize::from(s.disks), live);
     ended(s, run, stores, live, budget)
 }

@@ -28,7 +28,7 @@ pub struct State {
 
 // What every call yields beside its buffers: the refusal's number, 0 if done; the number of stores made; the state. No
 // Result: a call that the power cuts has a number and a state, and the theorems (`Demand3`, `SwapsBlank`) speak of the
-// number. Code has `Refusal` up to here.
+// number. Code has a `Refusal` until it makes one of these.
 #[derive(Clone, Copy)]
 pub struct Answer {
     pub refusal: u8,
@@ -60,7 +60,7 @@ pub struct Diagnosis {
 
 // The calls of document 01's list, "The list and the book", and those that document 02 adds to it. Numbers are wider
 // than the state's own, so that 256 is no disk 0; the budget is the paper's supply, 0 to 65,535. A write's data, a
-// read's output and the label that a returned disk shows are lent beside the call.
+// read's output and the label that a returned disk shows are lent beside the call. A stage is the number that C passes.
 #[derive(Clone, Copy)]
 pub enum Call {
     Read { block: usize, budget: u16 },

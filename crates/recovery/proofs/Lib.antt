@@ -1,3 +1,4 @@
 -- The laws of a restart.
 pub mod RestartList
 pub mod Passed
+pub mod SoundFirst

@@ -1,4 +1,5 @@
-// "Each refusal falls in the order of its paragraph, on its condition only": a line for each.
+// "Each refusal falls in the order of its paragraph, on its condition only": a line for each. 1 and 2
+// begin each anew, since it is the paper's own list.
 ghost use Rattle.std.specs.Prelude.{◌≡◌, IfOk};
 ghost use Rattle.refusals.specs.Refusals.{first_of, refusal_number};
 ghost use Rattle.protocol.specs.Naming.{the_set, found_by};
@@ -18,16 +19,9 @@ pub(crate) fn set_to_run(s: State, area: &[u8]) -> Result<Mask, Refusal>
     ensures refused { refusal_number result ≡ first_of (restart_refusals s area.now) }
     ensures set { IfOk result (λ set. set ≡ the_set (found_by s)) }
 {
-    let disks = s.disks as usize;
-    // By a variable: the check follows no field that is an array straight into a literal.
-    let labels = s.labels;
+    let disks = usize::from(s.disks);
     Refusal::Unsound.when(!sound(s))?;
-    Refusal::BufferLength.when(!area::fits(disks, s.blocks as usize, area.len()))?;
+    Refusal::BufferLength.when(!area::fits(disks, usize::from(s.blocks), area.len()))?;
     Refusal::Running.when(is_running(s.power))?;
-    let view = View {
-        disks,
-        online: s.online,
-        labels,
-    };
-    Ok(view.find()?)
+    Ok(View::of(s).find()?)
 }

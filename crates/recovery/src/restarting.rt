@@ -8,7 +8,7 @@ ghost use Rattle.budget.specs.Sizes.{SoundCabinet};
 
 use crate::checks::set_to_run;
 use crate::resyncing::{resync_all, resyncs_length};
-use budget::{ended, size_of, started};
+use budget::{Size, ended, started};
 use changes::Change;
 use dirty::dirty_regions;
 use protocol::{Answer, State};
@@ -16,12 +16,13 @@ use sets::Mask;
 use state::refused;
 
 // "At the end store C = S and T = 0 on every member, ascending. Then run with G = S."
+// State and area are two, and no struct that is sound: `soundness::sound` says why.
 fn restart_stores(s: State, area: &mut [u8], set: Mask, budget: u16) -> Answer
     requires { SoundCabinet s area.old × (0 < set) × (below set s.disks ≡ true) }
     ensures { (output : List ℕ) → yields result area.new output
         ≡ carry_out (restart_list s set) budget s area.old output (runs_with set s output) }
 {
-    let size = size_of(s);
+    let size = Size::from(s);
     let dirty = dirty_regions(s.labels, set);
     let stores = resyncs_length(dirty, size, set) + sets::size(set);
     let run = resync_all(started(s, budget), area, dirty, size, set);

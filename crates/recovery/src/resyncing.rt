@@ -28,6 +28,7 @@ fn resync_length(dirty: RegionMap, size: Size, set: Mask, r: usize) -> usize
     }
 }
 
+// By a loop: each region's length asks for a bound of the region, which a closure of `sum` would have to ask for too.
 pub(crate) fn resyncs_length(dirty: RegionMap, size: Size, set: Mask) -> usize
     requires { (size.blocks ≤ most_blocks) × (below set size.disks ≡ true) }
     ensures { (result ≡ length (resyncs_of size.disks size.blocks dirty set))
@@ -53,7 +54,6 @@ fn resync(run: Run, area: &mut [u8], dirty: RegionMap, size: Size, set: Mask, r:
         ≡ run_all size.blocks (resync_of size.disks size.blocks dirty set r)
         (progress run area.old) }
 {
-    let n = size.disks;
     if !regions::has(dirty, r) {
         return run;
     }
@@ -68,11 +68,17 @@ fn resync(run: Run, area: &mut [u8], dirty: RegionMap, size: Size, set: Mask, r:
         first,
         count,
     );
-    changes::store_labels(run, n, set, Change::Clear(r))
+    changes::store_labels(run, size.disks, set, Change::Clear(r))
 }
 
 // "For each region, ascending"
-pub(crate) fn resync_all(run: Run, area: &mut [u8], dirty: RegionMap, size: Size, set: Mask) -> Run
+pub(crate) fn resync_all(
+    mut run: Run,
+    area: &mut [u8],
+    dirty: RegionMap,
+    size: Size,
+    set: Mask,
+) -> Run
     requires { Fits size.disks size.blocks area.old × (0 < set) × (below set size.disks ≡ true) }
     ensures { progress result area.new
         ≡ run_all size.blocks (resyncs_of size.disks size.blocks dirty set)
@@ -82,7 +88,6 @@ pub(crate) fn resync_all(run: Run, area: &mut [u8], dirty: RegionMap, size: Size
         return run;
     }
     let regions = bays::region_count(size.blocks);
-    let mut run = run;
     for r in 0..regions {
         run = resync(run, area, dirty, size, set, r);
     }

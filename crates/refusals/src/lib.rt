@@ -59,6 +59,7 @@ pub enum Refusal {
 }
 
 impl Refusal {
+    // By `as`: an enum's number has no other form.
     pub fn number(self) -> u8
         ensures { result ≡ number_of self }
     {

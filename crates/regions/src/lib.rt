@@ -1,7 +1,7 @@
 // Maps of regions: "the dirty map, bit r for region r" (document 01, "What the cabinet is").
 //
 // A map's width stands here, in RegionMap and REGIONS, apart from the width of a set of disks. What the operations
-// mean, and their laws, are those of sets (crate `sets`), which name no width; so does the code that asks for a bit.
+// mean, and their laws, are those of sets (crate `sets`), which name no width; nor does the code that asks for a bit.
 // Those that make a map stay beside those that make a set: each is one operator of its own integer type.
 #![tactic(auto)]
 
@@ -13,7 +13,8 @@ pub type RegionMap = u8;
 // As many regions as a map has bits: the most that a disk may have.
 pub const REGIONS: usize = 8;
 
-// A region from REGIONS up is in no map, so any number may be asked about.
+// This and `below` hand on to the generic ones. They stand beside them for their promises of maps, and for the edits
+// that each has of its own. A region from REGIONS up is in no map, so any number may be asked about.
 pub fn has(map: RegionMap, region: usize) -> bool
     ensures { result ≡ has map region }
 {

@@ -39,9 +39,9 @@ pub fn put_reply(out: &mut [u8], at: usize, reply: Reply) -> usize
     ensures stored { Stored at (reply_line reply) out.old result out.new }
     ensures bounded { result ≤ at + reply_most }
 {
-    let stores = put_field(out, at, reply.result as u16, b' ');
+    let stores = put_field(out, at, u16::from(reply.result), b' ');
     let current = put_field(out, stores, reply.stores, b' ');
     let online = put_field(out, current, sets::number(reply.current), b' ');
     let byte = put_field(out, online, sets::number(reply.online), b' ');
-    put_field(out, byte, reply.byte as u16, b'\n')
+    put_field(out, byte, u16::from(reply.byte), b'\n')
 }

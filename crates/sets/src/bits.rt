@@ -5,12 +5,12 @@ ghost use Rattle.sets.specs.Sets.{has, below};
 // As many bits as the widest of them may have.
 const WIDEST: usize = 64;
 
+// No `Into<u64>`, which says how a value and its number are related, and not which number a clause may name.
 pub trait Bits: Copy {
     ghost number: { Self → ℕ };
 
     fn wide(self) -> u64
-        ensures number { result ≡ number self }
-        ensures fits { result < 2 ^ 64 };
+        ensures { result ≡ number self };
 }
 
 impl Bits for u8 {
@@ -26,11 +26,7 @@ pub fn has<B: Bits>(bits: B, member: usize) -> bool
     ensures { result ≡ has (B.number bits) member }
 {
     let wide = bits.wide();
-    if member < WIDEST {
-        (wide >> member) & 1 == 1
-    } else {
-        false
-    }
+    member < WIDEST && (wide >> member) & 1 == 1
 }
 
 // Whether there are only members below n.
@@ -38,5 +34,5 @@ pub fn below<B: Bits>(bits: B, n: usize) -> bool
     ensures { result ≡ below (B.number bits) n }
 {
     let wide = bits.wide();
-    if n < WIDEST { wide >> n == 0 } else { true }
+    n >= WIDEST || wide >> n == 0
 }

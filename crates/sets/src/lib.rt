@@ -1,6 +1,7 @@
 // Sets of disks as masks: bit d stands for disk d (document 01, "What the cabinet is").
 //
-// A set's width stands here, in Mask and DISKS. No definition, law or proof names it.
+// A set's width stands here, in Mask and DISKS, and `impl Bits` names the same integer type. No definition, law or
+// proof names it.
 #![tactic(auto)]
 
 ghost use Rattle.std.specs.Prelude.{◌≡◌, cond, ◌^◌, ◌<◌, ◌≤◌};
@@ -13,7 +14,8 @@ pub use bits::{Bits, below, has};
 
 pub type Mask = u8;
 
-// As many disks as a mask has bits: the most that a cabinet may have.
+// As many disks as a mask has bits: the most that a cabinet may have. Functions that need n up to it ask so: a type for
+// such an n would hold one number, which each loop and each shift would take out again.
 pub const DISKS: usize = 8;
 
 pub fn union(a: Mask, b: Mask) -> Mask
@@ -48,7 +50,7 @@ pub fn singleton(d: usize) -> Mask
     1 << d
 }
 
-// The disk as a set, if it is wanted: for loops that collect disks.
+// The disk as a set, if it is wanted: a flag here and no branch in each of the loops that collect disks.
 pub fn singleton_if(wanted: bool, d: usize) -> Mask
     requires { d < DISKS }
     ensures { result ≡ cond wanted (singleton d) 0 }
@@ -65,8 +67,9 @@ pub fn all(n: usize) -> Mask
     if n < DISKS { singleton(n) - 1 } else { !0 }
 }
 
-// The set that a number stands for, bit d for disk d. One that a mask cannot hold stands for none,
-// so the bound must be asked.
+// The set that a number stands for, bit d for disk d. One that a mask cannot hold stands for none, so the bound must be
+// asked. No From, here and in `number`: who calls names no width, and so not the type. What narrows does so by `as`,
+// here and elsewhere: the check proves that nothing is lost, and `try_from` would ask for an unwrap.
 pub fn from_number(v: u16) -> Mask
     requires { v < 2 ^ DISKS }
     ensures { result ≡ v }
@@ -81,14 +84,15 @@ pub fn number(s: Mask) -> u16
     u16::from(s)
 }
 
-// No more than DISKS, so that sums of sizes are seen to fit.
+// No more than DISKS, so that sums of sizes are seen to fit. By `as`, here and below: std has no From of u32 for usize.
 pub fn size(s: Mask) -> usize
     ensures { (result ≡ size s) × (result ≤ DISKS) }
 {
     s.count_ones() as usize
 }
 
-// The empty set has no lowest member; its trailing zeros would be the width, so 0 is given instead.
+// The empty set has no lowest member; its trailing zeros would be the width, so 0 is given instead, as the definition
+// does.
 pub fn lowest(s: Mask) -> usize
     ensures { result ≡ lowest s }
 {

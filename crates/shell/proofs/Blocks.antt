@@ -1,15 +1,16 @@
 -- Input byte by byte, and block by block. Assumes nothing.
 use mathlib.Core.Path.{◌≡◌, refl, sym, ◌∙◌}
-use mathlib.Core.Bool.{cond}
+use mathlib.Core.Bool.{true, cond}
 use mathlib.Core.List.{List, [], ◌∷◌, ◌++◌, append_assoc, append-nil}
 use Prim.Native.Nat.{ℕ, ◌+◌, ◌≤◌, ◌<◌}
 use native.Mathlib.Numerals.{add-one}
-use lib.Dec.{eqb}
+use lib.Dec.{eqb, eqb-suc-zero}
 use lib.ListN.{length, take, get_or}
 use lib.Seq.{take-suc}
 use Rattle.buffers.specs.Buffers.{Stored}
 use Rattle.buffers.proofs.Splicing.{splice_nothing, stored_after}
 use Rattle.replies.specs.Replies.{reply_line}
+use Rattle.interpreter.specs.Execution.{Machine}
 use Rattle.shell.specs.Dialogue.{Dialogue, line_result, line_ended, line_with_byte, after_byte, printed_byte}
 use Rattle.shell.specs.Dialogue.{after_input, printed_input, after_end, printed_end}
 
@@ -32,8 +33,15 @@ pub printed_end_lem : (d : Dialogue) → printed_end d
 unfolding printed_end
 printed_end_lem d = refl
 
+-- where no line has begun, the end changes nothing
+pub nothing_ends : (line : List ℕ) (m : Machine) → eqb (length line) 0 ≡ true
+    → after_end (record { machine = m; line = line }) ≡ record { machine = m; line = [] }
+unfolding after_end
+nothing_ends [] m e = refl
+nothing_ends (x ∷ line) m e = let no = eqb-suc-zero (length line) in cc
+
 -- what the check needs to prove `take_byte` and `finish`
-pub ruleset serving = (splice_nothing, after_byte_lem, printed_byte_lem, after_end_lem, printed_end_lem)
+pub ruleset serving = (splice_nothing, after_byte_lem, printed_byte_lem, after_end_lem, printed_end_lem, nothing_ends)
 
 -- ---- input in two parts
 

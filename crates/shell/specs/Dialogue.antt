@@ -1,6 +1,8 @@
 -- Document 01, "The cabinet program": lines in, lines out. First as the paper has it, over the lines of a whole
 -- input; then byte by byte, as input comes.
-use Rattle.std.specs.Prelude.{cond, List, [], ◌∷◌, ◌++◌, ℕ, ◌+◌, eqb, ltb, length}
+use Rattle.std.specs.Prelude.{cond, List, [], ◌∷◌, ◌++◌, ℕ, ◌+◌, eqb, length}
+use Rattle.buffers.specs.ByteLists.{with_byte_within}
+use Rattle.protocol.specs.declared.State.{State}
 use Rattle.protocol.specs.States.{zero_state}
 use Rattle.commands.specs.Commands.{on_first, line_most, command_of}
 use Rattle.replies.specs.Replies.{reply_line}
@@ -45,8 +47,8 @@ line_ended d = record { machine = (line_result d).machine; line = [] }
 abbrev pub line_buffer : ℕ
 line_buffer = line_most + 1
 
-unfoldable pub with_byte : List ℕ → ℕ → List ℕ
-with_byte line x = cond (ltb (length line) line_buffer) (line ++ (x ∷ [])) line
+abbrev pub with_byte : List ℕ → ℕ → List ℕ
+with_byte line x = with_byte_within line_buffer line x
 
 abbrev pub line_with_byte : ℕ → Dialogue → Dialogue
 line_with_byte x d = record { machine = d.machine; line = with_byte d.line x }
@@ -90,5 +92,8 @@ after_blocks (block ∷ later) d = after_blocks later (after_input block d)
 
 -- ---- the same in the code
 
+abbrev pub dialogue_of : List ℕ → State → List ℕ → Dialogue
+dialogue_of line state memory = record { machine = machine_of state memory; line = line }
+
 abbrev pub dialogue : Shell → List ℕ → Dialogue
-dialogue shell memory = record { machine = machine_of shell.state memory; line = shell.line }
+dialogue shell memory = dialogue_of shell.line shell.state memory

@@ -6,7 +6,7 @@ ghost use Rattle.buffers.specs.Buffers.{Stored};
 ghost use Rattle.protocol.specs.States.{zero_state};
 ghost use Rattle.replies.specs.Replies.{reply_most, reply_line};
 ghost use Rattle.shell.specs.Dialogue.{line_ended, line_result, after_byte, printed_byte};
-ghost use Rattle.shell.specs.Dialogue.{after_input, printed_input, printed_end, after_end, dialogue};
+ghost use Rattle.shell.specs.Dialogue.{after_input, printed_input, printed_end, after_end, dialogue_of, dialogue};
 
 use interpreter::execute;
 use protocol::State;
@@ -16,7 +16,8 @@ mod line;
 pub use line::Line;
 
 // Between two bytes: the cabinet's state, the line under way, and how much of the output is used. The output and the
-// memory are lent to each call, and in no struct: each method would have to promise that it keeps the references.
+// memory are lent to each call, and not in this struct: each method would have to promise that it keeps the
+// references. Not Copy, since `Line` is not.
 #[derive(Drop)]
 pub struct Shell {
     pub state: State,
@@ -36,7 +37,6 @@ impl Shell {
         }
     }
 
-    // The line under way has ended: it is executed, and its reply stands behind the others.
     fn end_line(&mut self, memory: &mut [u8], out: &mut [u8])
         requires { self.old.used + reply_most ≤ length out.old }
         ensures dialogue { dialogue self.new memory.new ≡ line_ended (dialogue self.old memory.old) }
@@ -45,9 +45,13 @@ impl Shell {
             out.old self.new.used out.new }
         ensures room { self.new.used ≤ self.old.used + reply_most }
     {
-        let command = commands::parse(self.line.as_slice());
-        let reply = execute(command, &mut self.state, memory);
-        self.used = replies::put_reply(out, self.used, reply);
+        self.used = answer_line(
+            self.line.as_slice(),
+            &mut self.state,
+            self.used,
+            memory,
+            out,
+        );
         self.line.clear();
     }
 
@@ -83,7 +87,6 @@ impl Shell {
     }
 
     // The input has ended, and with it a line that has begun.
-    #[tactic(auto, using(crate::proofs::Blocks::serving))]
     pub fn finish(&mut self, memory: &mut [u8], out: &mut [u8])
         requires { self.old.used + reply_most ≤ length out.old }
         ensures dialogue { dialogue self.new memory.new ≡ after_end (dialogue self.old memory.old) }
@@ -93,8 +96,55 @@ impl Shell {
         ensures room { self.new.used ≤ self.old.used + reply_most }
         ensures ended { self.new.line ≡ [] }
     {
-        if !self.line.is_empty() {
-            self.end_line(memory, out);
-        }
+        self.used = finish(
+            self.line.as_slice(),
+            &mut self.state,
+            self.used,
+            memory,
+            out,
+        );
+        self.line.clear();
     }
+}
+
+// A line has ended: it is executed, and its reply stands behind the others. Gives how much of the output is used.
+fn answer_line(
+    line: &[u8],
+    state: &mut State,
+    used: usize,
+    memory: &mut [u8],
+    out: &mut [u8],
+) -> usize
+    requires { used + reply_most ≤ length out.old }
+    ensures dialogue { dialogue_of [] state.new memory.new ≡ line_ended (dialogue_of line.now state.old memory.old) }
+    ensures output { Stored used
+        (reply_line (line_result (dialogue_of line.now state.old memory.old)).reply)
+        out.old result out.new }
+    ensures room { result ≤ used + reply_most }
+{
+    let reply = execute(commands::parse(line), state, memory);
+    replies::put_reply(out, used, reply)
+}
+
+// The input has ended, and with it a line that has begun: of any length, also one longer than a shell keeps. Gives how
+// much of the output is used.
+#[tactic(auto, using(crate::proofs::Blocks::serving))]
+pub fn finish(
+    line: &[u8],
+    state: &mut State,
+    used: usize,
+    memory: &mut [u8],
+    out: &mut [u8],
+) -> usize
+    requires { used + reply_most ≤ length out.old }
+    ensures dialogue { dialogue_of [] state.new memory.new ≡ after_end (dialogue_of line.now state.old memory.old) }
+    ensures output { Stored used
+        (printed_end (dialogue_of line.now state.old memory.old))
+        out.old result out.new }
+    ensures room { result ≤ used + reply_most }
+{
+    if line.is_empty() {
+        return used;
+    }
+    answer_line(line, state, used, memory, out)
 }

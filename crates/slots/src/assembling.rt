@@ -27,7 +27,8 @@ fn arguments_refusal(disks: usize, blocks: usize, online: Mask, slots: &[u8]) ->
 }
 
 // "Then for each slot ascending": the first refusal of theirs, or else their labels. The label reader is handed the
-// part of the slots that starts at a disk's slot.
+// part of the slots that starts at a disk's slot: it finds the label's end by itself, so no slot need be cut out, and
+// d is asked for anyway.
 fn read_slots(disks: usize, blocks: usize, slots: &[u8]) -> Result<[Label; DISKS], Refusal>
     requires { (disks ≤ most_disks) × (length slots.now ≡ slot_size * disks) }
     ensures refused { refusal_number result ≡ first_of (refusals_below disks disks blocks slots.now) }
@@ -36,8 +37,7 @@ fn read_slots(disks: usize, blocks: usize, slots: &[u8]) -> Result<[Label; DISKS
     let mut labels = blank_labels();
     for d in 0..disks {
         let read = label_form::read(&slots[SLOT_SIZE * d..]);
-        let label = label_of_bay(d, disks, blocks, read)?;
-        labels[d] = label;
+        labels[d] = label_of_bay(d, disks, blocks, read)?;
     }
     Ok(labels)
 }

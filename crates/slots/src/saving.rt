@@ -27,11 +27,13 @@ fn write_slot(slot: &mut [u8], d: usize, disks: usize, label: Label)
     buffers::clear(&mut slot[length..]);
 }
 
+// Cut out by number: of a slice that was lent in chunks to be written, a proof knows the length afterwards, and not
+// what it holds.
 fn write_slots(s: State, slots: &mut [u8])
     requires { Sound s × (length slots.old ≡ slot_size * s.disks) }
     ensures { slots.new ≡ ascending s.disks (λ d. slot_bytes d s.disks (label_at s.labels d)) }
 {
-    let disks = s.disks as usize;
+    let disks = usize::from(s.disks);
     for d in 0..disks {
         let from = SLOT_SIZE * d;
         write_slot(&mut slots[from..from + SLOT_SIZE], d, disks, s.labels[d]);
@@ -44,7 +46,7 @@ fn save_refusal(s: State, slots: &[u8]) -> Result<(), Refusal>
     ensures { refusal_number result ≡ first_of (save_refusals s slots.now) }
 {
     Refusal::Unsound.when(!sound(s))?;
-    Refusal::BufferLength.when(wrong_size(s.disks as usize, slots.len()))
+    Refusal::BufferLength.when(wrong_size(usize::from(s.disks), slots.len()))
 }
 
 // The slot buffer is its output; it has no disk area, so it leaves any.

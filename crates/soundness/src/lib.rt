@@ -89,17 +89,16 @@ fn survey_labels(n: usize, g: Mask, labels: [Label; DISKS]) -> Survey
 fn filled(power: Power) -> bool
     ensures { result ≡ filled power }
 {
-    match power {
-        Power::Stopped => true,
-        Power::Running(g) => 0 < g,
-    }
+    !matches!(power, Power::Running(0))
 }
 
+// What goes on from here asks `Sound s` of the state as it came. A type that holds a sound state would put its field
+// into each of those equations and each use of n, R and labels, and each paragraph would owe which state it hands on.
 pub fn sound(s: State) -> bool
     ensures { result ≡ sound s }
 {
-    let n = s.disks as usize;
-    let b = s.blocks as usize;
+    let n = usize::from(s.disks);
+    let b = usize::from(s.blocks);
     let g = current(s.power);
     let survey = survey_labels(n, g, s.labels);
     let named = sets::union(sets::union(s.online, g), survey.named);

@@ -16,7 +16,8 @@ pub fn done(state: State) -> Answer
     }
 }
 
-// "A refusal gives its number, a store count of 0, and no change in the state"
+// "A refusal gives its number, a store count of 0, and no change in the state". A call asks its paragraph and goes on,
+// or gives this: two arms at each, since closures in their place would both borrow the area.
 pub fn refused(state: State, refusal: Refusal) -> Answer
     ensures { result ≡ record { refusal = number_of refusal; stores = 0; state = state } }
 {

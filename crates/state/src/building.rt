@@ -48,7 +48,8 @@ pub fn blank_labels() -> [Label; DISKS]
     [blank(); DISKS]
 }
 
-// "Fresh and assembling are given no state; refused, they yield one that is all zero and stopped"
+// "Fresh and assembling are given no state; refused, they yield one that is all zero and stopped". Written out and not
+// derived: the definition has these words, and edits are wrong ones.
 #[tactic(auto, unfolding(protocol::specs::States::zero_state))]
 pub fn zero() -> State
     ensures { result ≡ zero_state }

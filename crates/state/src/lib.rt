@@ -1,4 +1,5 @@
-// What calls read off a state, and how a state and an answer are built (document 01, "What the cabinet is").
+// What calls read off a state, and how a state and an answer are built (document 01, "What the cabinet is"). Functions
+// and no methods: the types stand in `protocol`, which has no code.
 #![tactic(auto)]
 
 mod answer;

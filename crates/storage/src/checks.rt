@@ -1,4 +1,5 @@
-// "Each refusal falls in the order of its paragraph, on its condition only": a line for each.
+// "Each refusal falls in the order of its paragraph, on its condition only": a line for each. 1 and 2
+// begin each anew, since it is the paper's own list.
 ghost use Rattle.std.specs.Prelude.{◌≡◌};
 ghost use Rattle.refusals.specs.Refusals.{first_of, refusal_number};
 ghost use Rattle.protocol.specs.Calls.{block_refusals, join_refusals};
@@ -15,9 +16,9 @@ use state::{current, is_running, live};
 pub(crate) fn block_refusal(s: State, area: &[u8], k: usize, bytes: &[u8]) -> Result<(), Refusal>
     ensures { refusal_number result ≡ first_of (block_refusals s area.now k bytes.now) }
 {
-    let blocks = s.blocks as usize;
+    let blocks = usize::from(s.blocks);
     Refusal::Unsound.when(!sound(s))?;
-    Refusal::BufferLength.when(!area::fits(s.disks as usize, blocks, area.len()))?;
+    Refusal::BufferLength.when(!area::fits(usize::from(s.disks), blocks, area.len()))?;
     Refusal::BlockLength.when(bytes.len() != BLOCK_SIZE)?;
     Refusal::Stopped.when(!is_running(s.power))?;
     Refusal::NoSuchBlock.when(blocks <= k)?;
@@ -29,9 +30,9 @@ pub(crate) fn block_refusal(s: State, area: &[u8], k: usize, bytes: &[u8]) -> Re
 pub(crate) fn join_refusal(s: State, area: &[u8], d: usize) -> Result<(), Refusal>
     ensures { refusal_number result ≡ first_of (join_refusals s area.now d) }
 {
-    let disks = s.disks as usize;
+    let disks = usize::from(s.disks);
     Refusal::Unsound.when(!sound(s))?;
-    Refusal::BufferLength.when(!area::fits(disks, s.blocks as usize, area.len()))?;
+    Refusal::BufferLength.when(!area::fits(disks, usize::from(s.blocks), area.len()))?;
     Refusal::Stopped.when(!is_running(s.power))?;
     Refusal::NoSuchDisk.when(disks <= d)?;
     Refusal::DiskCurrent.when(sets::has(current(s.power), d))?;

@@ -8,20 +8,21 @@ ghost use Rattle.protocol.specs.Calls.{join_outcome};
 ghost use Rattle.budget.specs.Sizes.{SoundCabinet};
 
 use crate::checks::join_refusal;
-use budget::{ended, size_of, started};
+use budget::{Size, ended, started};
 use moves::{live_length, move_length, move_to, move_to_live};
 use protocol::{Answer, State};
 use state::refused;
 
 // "if L differs from G, move to L. Copy all blocks, ascending, from the lowest
 // member of L to d. Then move to L with d."
+// State and area are two, and no struct that is sound: `soundness::sound` says why.
 fn join_stores(s: State, area: &mut [u8], d: usize, budget: u16) -> Answer
     requires { SoundCabinet s area.old × (0 < live s) × (d < s.disks) }
     ensures { (output : List ℕ) → yields result area.new output
         ≡ carry_out (join_list s d) budget s area.old output
         (runs_with (union (live s) (singleton d)) s output) }
 {
-    let size = size_of(s);
+    let size = Size::from(s);
     let live = state::live(s);
     let new = sets::singleton(d);
     let joined = sets::union(live, new);

@@ -40,7 +40,7 @@ pub fn read(s: State, area: &[u8], k: usize, output: &mut [u8], budget: u16) -> 
     let answer = read_stores(s, budget);
     if answer.refusal == 0 {
         let from = source(live(s));
-        to_slice(output, load(area, s.blocks as usize, from, k));
+        to_slice(output, load(area, usize::from(s.blocks), from, k));
     }
     answer
 }

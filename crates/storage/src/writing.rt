@@ -9,7 +9,7 @@ ghost use Rattle.budget.specs.Sizes.{SoundCabinet};
 
 use crate::checks::block_refusal;
 use area::from_slice;
-use budget::{ended, size_of, started};
+use budget::{Size, ended, started};
 use changes::Change;
 use dirty::dirty_disks;
 use moves::{live_length, move_to_live};
@@ -19,13 +19,14 @@ use state::refused;
 
 // "if L differs from G, move to L. Then set the region's dirty bit on each disk of L, ascending, where it does not
 // stand. Then store the block on each disk of L, ascending."
+// State and area are two, and no struct that is sound: `soundness::sound` says why.
 fn write_stores(s: State, area: &mut [u8], k: usize, bytes: &[u8], budget: u16) -> Answer
     requires { SoundCabinet s area.old × (k < s.blocks) × (length bytes.now ≡ block_size) }
     ensures { (output : List ℕ) → yields result area.new output
         ≡ carry_out (write_list s k bytes.now) budget s area.old output
         (runs_with (live s) s output) }
 {
-    let size = size_of(s);
+    let size = Size::from(s);
     let n = size.disks;
     let live = state::live(s);
     let region = k / REGION_SIZE;

@@ -54,6 +54,6 @@ pub fn swap(s: State, area: &mut [u8], d: usize, budget: u16) -> Answer
     if answer.refusal != 0 {
         return answer;
     }
-    zero_disk(area, s.blocks as usize, d);
+    zero_disk(area, usize::from(s.blocks), d);
     with_blank_label(answer, d)
 }

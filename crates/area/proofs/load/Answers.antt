@@ -3,5 +3,5 @@ use Rattle.area.proofs.load.Goals as goal
 
 pub returns : goal.returns
 returns c =
-    disk_loads _ _ _ _ c.start-from.result c.start-to.result c.requires c.start-from.ensures
-    c.start-to.ensures _ c.load_block.ensures
+    disk_loads _ _ _ _ c.part.result.start c.part.result.end c.requires c.part.ensures.start
+    c.part.ensures.end _ c.load_block.ensures

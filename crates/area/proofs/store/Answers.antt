@@ -4,5 +4,5 @@ use Rattle.area.proofs.store.Goals as goal
 
 pub returns : goal.returns
 returns c =
-    disk_stores _ _ _ _ _ _ c.requires c.start-from.ensures c.start-to.ensures _ _
+    disk_stores _ _ _ _ _ _ c.requires c.part.ensures.start c.part.ensures.end _ _
     (omega arith) c.store_block.ensures

@@ -12,7 +12,7 @@ invariant_of-standing c =
     let fit = c.requires in
     let live = c.live-live.ensures in
     record {
-      within = rw (c.region_count.ensures, c.size_of-size.ensures, live)
+      within = rw (c.region_count.ensures, c.from-size.ensures, live)
           (fit.range.disks, omega (arith, fit.range.blocks), live_known s fit, rw live at c.dirty_regions.ensures);
     }
 
@@ -21,7 +21,7 @@ unfolding clean_list
 returns c area output =
     let s = c.args.s in
     let live = c.live-live.ensures in
-    let size = c.size_of-size.ensures in
+    let size = c.from-size.ensures in
     let regions = c.region_count.ensures in
     let cleared = rw (regions, size, live, c.started.ensures) at (c.clear-run.ensures s.blocks area) in
     let length = rw (regions, size, live) at c.count.ensures in

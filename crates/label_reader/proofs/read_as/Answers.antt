@@ -7,6 +7,8 @@ returns c =
     rw (
       c.judge.ensures,
       c.fields-label.ensures,
+      c.from-number.ensures,
+      c.from.ensures,
       c.byte_at-place.ensures,
       c.byte_at-map.ensures,
     )

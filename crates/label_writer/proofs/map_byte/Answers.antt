@@ -6,6 +6,7 @@ unfolding map_byte
 returns c =
     rw (
       c.present-dirty.ensures.0,
+      c.from.ensures,
       c.present-tentative.ensures.0,
       c.number-2.ensures,
       c.present-committed.ensures.0,

@@ -33,13 +33,14 @@ put_field-third-requires c =
 pub put_field-requires : goal.put_field-requires
 put_field-requires c =
     let a = c.args in
-    omega (
+    rw c.from.ensures
+    (omega (
       arith,
       encode_parts a.form a.number a.disks a.label,
       rw c.number.ensures at c.put_field-second.ensures.0,
       rw c.number-2.ensures at c.put_field-third.ensures.0,
       simp length-set at c.put_field-second.auto.out,
-    )
+    ))
 
 pub returns : goal.returns
 unfolding place_byte
@@ -49,4 +50,4 @@ returns c =
     (omega (arith, encode_parts a.form a.number a.disks a.label))
     (rw (c.number.ensures, c.map_byte.ensures) at c.put_field-second.ensures)
     (rw c.number-2.ensures at c.put_field-third.ensures)
-    c.put_field.ensures
+    (rw c.from.ensures at c.put_field.ensures)

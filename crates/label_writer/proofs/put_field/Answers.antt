@@ -18,7 +18,7 @@ returns-then-width-eq1 c =
     let a = c.args in
     let inside : a.at < length a.out.now =
     omega (arith, length-present a.width a.field c.if-field-eq0.false) in
-    rw (c.if-width-eq1.true, one_written a.field c.if-field-eq0.false)
+    rw (c.if-width-eq1.true, one_written a.field c.if-field-eq0.false, c.to_le_bytes.ensures)
     (omega arith, splice_one a.out.now a.at (a.field % 256) inside)
 
 pub bounds-out-at-2 : goal.bounds-out-at-2
@@ -32,5 +32,6 @@ returns c =
     let two : a.width ≡ 2 = omega arith in
     let room : a.at + 1 < length a.out.now =
     omega (arith, length-present a.width a.field c.if-field-eq0.false) in
-    rw (two, two_written a.field (search rules) c.if-field-eq0.false)
+    let high : a.field / 256 % 256 ≡ a.field / 256 = omega arith in
+    rw (two, two_written a.field (search rules) c.if-field-eq0.false, c.to_le_bytes.ensures, high)
     (omega arith, splice_two a.out.now a.at (a.field % 256) (a.field / 256) room)

@@ -11,4 +11,4 @@ pub returns : goal.returns
 unfolding move_to_live
 returns c b area =
     rw (sym c.all_live.ensures ∙ c.if-all_live.false)
-    (rw c.live.ensures at (c.move_to.ensures b area))
+    (rw (c.from.ensures, c.live.ensures) at (c.move_to.ensures b area))

@@ -16,5 +16,7 @@ returns c =
       c.survey_labels-survey.ensures,
       c.filled.ensures,
       c.current-g.ensures,
+      c.from-n.ensures,
+      c.from-b.ensures,
     )
     (clauses_agree s)

@@ -13,7 +13,7 @@ use Rattle.protocol.specs.Calls.{restart_refusals}
 use Rattle.protocol.specs.declared.State.{State}
 use Rattle.protocol.specs.Soundness.{Sound, sound}
 use Rattle.protocol.proofs.Soundness.{test_agrees}
-use Rattle.protocol.proofs.Finder.{in_bounds, finds_found}
+use Rattle.protocol.proofs.Finder.{finds_found}
 use Rattle.recovery.proofs.checks.set_to_run.Goals as goal
 
 -- a state that has passed the test of soundness
@@ -26,23 +26,23 @@ named : (u : Unnamed) → let number = found_number (found_of (Err u)) in
 named Nothing = refl
 named Several = refl
 
-pub invariant_of-view : goal.invariant_of-view
-invariant_of-view c =
-    let s = c.args.s in
-    record { within = in_bounds s (sound_if s c.sound.ensures c.in_ok-when.ensures) }
+pub of-requires : goal.of-requires
+of-requires c = sound_if c.args.s c.sound.ensures c.in_ok-when.ensures
 
 pub returns-clause-set : goal.returns-clause-set
 returns-clause-set c =
     let s = c.args.s in
     let fit = sound_if s c.sound.ensures c.in_ok-when.ensures in
-    ap the_set (c.in_ok-find.ensures ∙ finds_found s fit)
+    let found = rw (c.of.ensures.disks, c.of.ensures.online, c.of.ensures.labels) at c.in_ok-find.ensures in
+    ap the_set (found ∙ finds_found s fit)
 
 pub returns-clause-refused : goal.returns-clause-refused
 unfolding restart_refusals first_of
 returns-clause-refused c =
     let s = c.args.s in
     let fit = sound_if s c.sound.ensures c.in_ok-when.ensures in
-    rw (← (c.in_ok-find.ensures ∙ finds_found s fit)) (search rules)
+    let found = rw (c.of.ensures.disks, c.of.ensures.online, c.of.ensures.labels) at c.in_ok-find.ensures in
+    rw (← (found ∙ finds_found s fit)) (search rules)
 
 pub returns-in_err-find-clause-refused : goal.returns-in_err-find-clause-refused
 unfolding restart_refusals first_of
@@ -50,4 +50,5 @@ returns-in_err-find-clause-refused c =
     let s = c.args.s in
     let fit = sound_if s c.sound.ensures c.in_ok-when.ensures in
     let number = named c.in_err-find.field-0.0 in
-    rw (← (c.in_err-find.ensures ∙ finds_found s fit)) (search rules)
+    let found = rw (c.of.ensures.disks, c.of.ensures.online, c.of.ensures.labels) at c.in_err-find.ensures in
+    rw (← (found ∙ finds_found s fit)) (search rules)

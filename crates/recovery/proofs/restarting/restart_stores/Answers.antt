@@ -12,15 +12,15 @@ use Rattle.recovery.proofs.restarting.restart_stores.Goals as goal
 
 pub resyncs_length-requires : goal.resyncs_length-requires
 resyncs_length-requires c =
-    rw c.size_of-size.ensures (c.requires.0.fit.range.blocks, c.requires.2)
+    rw c.from-size.ensures (c.requires.0.fit.range.blocks, c.requires.2)
 
 pub resync_all-run-requires : goal.resync_all-run-requires
 resync_all-run-requires c =
-    rw c.size_of-size.ensures (sound-fits c.requires.0, c.requires.1, c.requires.2)
+    rw c.from-size.ensures (sound-fits c.requires.0, c.requires.1, c.requires.2)
 
 pub store_labels-run-requires : goal.store_labels-run-requires
 store_labels-run-requires c =
-    (rw c.size_of-size.ensures c.requires.0.fit.range.disks, tt)
+    (rw c.from-size.ensures c.requires.0.fit.range.disks, tt)
 
 pub returns : goal.returns
 unfolding restart_list commits
@@ -28,7 +28,7 @@ returns c output =
     let s = c.args.s in
     let set = c.args.set in
     let area = c.args.area.now in
-    let size = c.size_of-size.ensures in
+    let size = c.from-size.ensures in
     let dirty = c.dirty_regions-dirty.ensures in
     let stores = resyncs_of s.disks s.blocks (dirty_regions s.labels set) set in
     let resynced = rw (size, dirty, c.started.ensures) at c.resync_all-run.ensures in

@@ -19,13 +19,13 @@ pub slice_bounds-read-start : goal.slice_bounds-read-start
 unfolding longest_label
 slice_bounds-read-start c = search rules
 
-pub returns-in_err-label-clause-refused : goal.returns-in_err-label-clause-refused
+pub returns-in_err-labels-clause-refused : goal.returns-in_err-labels-clause-refused
 unfolding longest_label
-returns-in_err-label-clause-refused c =
+returns-in_err-labels-clause-refused c =
     let a = c.args in
     let l = c.loop-d in
     let found = slot_read a.slots.now l.d c.read-read.ensures in
-    let own = rw found at c.in_err-label.ensures.refused in
+    let own = rw found at c.in_err-labels.ensures.refused in
     let all = slot_stops a.disks a.blocks a.slots.now l.d (omega arith) l.invariant.0 _ own in
     search rules
 
@@ -35,6 +35,6 @@ loop-d-preserved c =
     let a = c.args in
     let l = c.loop-d in
     let found = slot_read a.slots.now l.d c.read-read.ensures in (
-      slot_passed a.disks a.blocks a.slots.now l.d l.invariant.0 (sym (rw found at c.in_ok-label.ensures.refused)),
-      label_next l.d a.slots.now (rw found at c.in_ok-label.ensures.label) l.invariant.1 (omega arith),
+      slot_passed a.disks a.blocks a.slots.now l.d l.invariant.0 (sym (rw found at c.in_ok-labels.ensures.refused)),
+      label_next l.d a.slots.now (rw found at c.in_ok-labels.ensures.label) l.invariant.1 (omega arith),
     )

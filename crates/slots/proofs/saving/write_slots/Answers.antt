@@ -14,7 +14,7 @@ pub write_slot-requires : goal.write_slot-requires
 unfolding longest_label
 write_slot-requires c = (
   simp (length-take, length-drop) (omega arith),
-  stored_taken c.args.s c.requires.0 _ (omega arith) slot_size (le_refl _),
+  rw c.from-disks.ensures (stored_taken c.args.s c.requires.0 _ (omega arith) slot_size (le_refl _)),
 )
 
 pub loop-d-preserved : goal.loop-d-preserved
@@ -23,7 +23,7 @@ loop-d-preserved c =
     let l = c.loop-d in
     let a = c.args in (
       search rules,
-      slots_next a.s a.slots.now l.slots l.d l.invariant.1 c.write_slot.ensures,
+      slots_next a.s a.slots.now l.slots l.d l.invariant.1 (rw c.from-disks.ensures at c.write_slot.ensures),
     )
 
 pub returns : goal.returns

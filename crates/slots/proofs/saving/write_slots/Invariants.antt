@@ -11,5 +11,5 @@ use Rattle.slots.proofs.saving.write_slots.Given as goal
 abbrev pub invariant-loop-d : goal.invariant-loop-d
 invariant-loop-d l =
     (length l.slots ≡ length l.initial.slots)
-    × (l.slots ≡ ascending l.d (λ i. slot_bytes i l.disks (label_at l.s.labels i)) ++ drop (slot_size * l.d)
+    × (l.slots ≡ ascending l.d (λ i. slot_bytes i l.s.disks (label_at l.s.labels i)) ++ drop (slot_size * l.d)
     l.initial.slots)

@@ -9,22 +9,22 @@ use Rattle.storage.proofs.joining.join_stores.Goals as goal
 
 pub overflow_add-stores : goal.overflow_add-stores
 overflow_add-stores c =
-    rw c.size_of-size.ensures (omega (arith, c.requires.0.fit.range.blocks))
+    rw c.from-size.ensures (omega (arith, c.requires.0.fit.range.blocks))
 
 pub overflow_add-stores-2 : goal.overflow_add-stores-2
 overflow_add-stores-2 c =
-    rw c.size_of-size.ensures (omega (arith, c.requires.0.fit.range.blocks))
+    rw c.from-size.ensures (omega (arith, c.requires.0.fit.range.blocks))
 
 pub copy_disk-run-requires : goal.copy_disk-run-requires
 copy_disk-run-requires c =
     let s = c.args.s in
     let fit = c.requires.0.fit in
-    rw (c.size_of-size.ensures, c.source.ensures, c.live-live.ensures)
+    rw (c.from-size.ensures, c.source.ensures, c.live-live.ensures)
     (sound-fits c.requires.0, source_known s.disks _ c.requires.1 (live_known s fit), c.requires.2)
 
 pub move_to-run-requires : goal.move_to-run-requires
 move_to-run-requires c =
-    rw c.size_of-size.ensures c.requires.0.fit.range.disks
+    rw c.from-size.ensures c.requires.0.fit.range.disks
 
 pub returns : goal.returns
 returns c output =
@@ -33,7 +33,7 @@ returns c output =
     let area = c.args.area.now in
     let fit = c.requires.0.fit in
     let live = c.live-live.ensures in
-    let size = c.size_of-size.ensures in
+    let size = c.from-size.ensures in
     let new = c.singleton-new.ensures in
     let joined = c.union-joined.ensures in
     let moved = rw c.started.ensures at (c.move_to_live-run.ensures s.blocks area) in

@@ -12,7 +12,8 @@ read_stores-answer-requires c =
 pub load-requires : goal.load-requires
 load-requires c =
     let a = c.args in
-    rw (c.source-from.ensures, c.live.ensures) (load_passed a.s a.area.now a.k a.output.now (sym c.in_default.ensures))
+    rw (c.from.ensures, c.source-from.ensures, c.live.ensures)
+    (load_passed a.s a.area.now a.k a.output.now (sym c.in_default.ensures))
 
 pub to_slice-requires : goal.to_slice-requires
 to_slice-requires c =
@@ -26,6 +27,7 @@ returns-then-answer-eq0 c =
     (rw (
       c.to_slice.ensures,
       c.load.ensures,
+      c.from.ensures,
       c.source-from.ensures,
       c.live.ensures,
     )

@@ -7,17 +7,17 @@ use Rattle.storage.proofs.writing.write_stores.Goals as goal
 
 pub dirty_disks-requires : goal.dirty_disks-requires
 dirty_disks-requires c =
-    rw c.size_of-size.ensures c.requires.0.fit.range.disks
+    rw c.from-size.ensures c.requires.0.fit.range.disks
 
 pub store_labels-run-requires : goal.store_labels-run-requires
 store_labels-run-requires c = (
-  rw c.size_of-size.ensures c.requires.0.fit.range.disks,
+  rw c.from-size.ensures c.requires.0.fit.range.disks,
   omega (arith, c.requires.0.fit.range.blocks, c.requires.1),
 )
 
 pub store_blocks-run-requires : goal.store_blocks-run-requires
 store_blocks-run-requires c =
-    rw c.size_of-size.ensures (sound-fits c.requires.0, c.requires.1)
+    rw c.from-size.ensures (sound-fits c.requires.0, c.requires.1)
 
 pub returns : goal.returns
 unfolding region_of
@@ -28,7 +28,7 @@ returns c output =
     let area = c.args.area.now in
     let fit = c.requires.0.fit in
     let live = c.live-live.ensures in
-    let size = c.size_of-size.ensures in
+    let size = c.from-size.ensures in
     let unmarked = c.difference-unmarked.ensures in
     let dirty = c.dirty_disks.ensures in
     let moved = rw c.started.ensures at (c.move_to_live-run.ensures s.blocks area) in

@@ -19,7 +19,7 @@ returns-then-answer-ne0 c output =
 
 pub zero_disk-requires : goal.zero_disk-requires
 zero_disk-requires c =
-    let a = c.args in disk_part a.s a.area.now a.d (sym c.in_default.ensures)
+    let a = c.args in rw c.from.ensures (disk_part a.s a.area.now a.d (sym c.in_default.ensures))
 
 pub with_blank_label-requires : goal.with_blank_label-requires
 with_blank_label-requires c =
@@ -30,6 +30,6 @@ unfolding swap_outcome
 returns c output =
     let a = c.args in
     passed _ _ _ _ _ c.in_default.ensures refl
-    (rw (c.with_blank_label.ensures, c.zero_disk.ensures)
+    (rw (c.with_blank_label.ensures, c.zero_disk.ensures, c.from.ensures)
     (swapped a.s a.d a.budget a.area.now output _ (c.swap_stores-answer.ensures _ output)
     c.if-answer-ne0.false))

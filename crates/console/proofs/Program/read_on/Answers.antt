@@ -3,7 +3,7 @@ use mathlib.Core.Logic.{inl, inr}
 use native.Mathlib.Omega.{arith}
 use Rattle.sets.proofs.Tests.{clash}
 use Rattle.console.proofs.Runs.{next_made}
-use Rattle.console.proofs.read_on.Goals as goal
+use Rattle.console.proofs.Program.read_on.Goals as goal
 
 pub loop-preserved : goal.loop-preserved
 loop-preserved c =
@@ -12,7 +12,6 @@ loop-preserved c =
     let on = sym c.if-not-goes_on.ensures in
     record {
       empty = served.room;
-      room = record { answers = omega arith; ends = omega arith };
       none = λ off. clash (rw (before.none off).0 at on) off;
       some = λ start made. next_made (before.some start made) on served.dialogue;
     }

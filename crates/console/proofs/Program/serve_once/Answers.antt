@@ -2,12 +2,12 @@ use mathlib.Core.Path.{ap}
 use native.Mathlib.Omega.{arith}
 use lib.Seq.{length-take-le}
 use Rattle.console.proofs.Handing.{stored_first}
-use Rattle.console.proofs.serve_once.Goals as goal
+use Rattle.console.proofs.Program.serve_once.Goals as goal
 
 pub answer-requires : goal.answer-requires
 answer-requires c =
     let heard = c.hear in
-    let empty = c.requires.0 in
+    let empty = c.requires in
     record {
       all = length-take-le _ _ (omega arith);
       block = _;
