@@ -70,15 +70,21 @@ pub fn zero_disk(area: &mut [u8], blocks: usize, d: usize)
     requires { InArea blocks d 0 area.old }
     ensures { area.new ≡ with_zero_disk blocks area.old d }
 {
-    area[part(blocks, d)].fill(0);
+    let disk = part(blocks, d);
+    area[disk.start..disk.end].fill(0);
 }
 
-// A block that is lent by itself.
+// A block that is lent by itself. A loop, since an edit of it masks each byte: in the place of `try_from`, which was
+// tried, a loop or a closure is refused whatever it does.
 pub fn from_slice(bytes: &[u8]) -> [u8; BLOCK_SIZE]
     requires { length bytes.now ≡ block_size }
     ensures { result ≡ bytes.now }
 {
-    <[u8; BLOCK_SIZE]>::try_from(bytes).unwrap()
+    let mut block = [0; BLOCK_SIZE];
+    for i in 0..BLOCK_SIZE {
+        block[i] = bytes[i];
+    }
+    block
 }
 
 // The bytes to an output of one block. A loop, since a block took more than twice as long by `copy_from_slice`: that is

@@ -4,5 +4,5 @@
 mod bay;
 mod counts;
 
-pub use bay::label_of_bay;
+pub use bay::{bay_refusal, label_of_bay};
 pub use counts::{region_count, wrong_block_count, wrong_disk_count};

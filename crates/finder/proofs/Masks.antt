@@ -96,7 +96,7 @@ module _ (stage : Stage) (n online : ℕ) (labels : List Label) (fit : n ≤ mos
     inside : (d : ℕ) → has x d ≡ true → has online d ≡ true
     inside = none_fails x (difference x online) (has online) (has-difference x online) reached
 
-    dissenters_by_masks : difference x (backers stage labels x) ≡ dissenters stage n labels x
+    pub dissenters_by_masks : difference x (backers stage labels x) ≡ dissenters stage n labels x
     unfolding dissenters
     dissenters_by_masks =
         same_members _ _ (λ d. has-difference x _ d ∙ go d (test (has x d)) ∙ sym (has-disks_where n _ d))
@@ -109,7 +109,7 @@ module _ (stage : Stage) (n online : ℕ) (labels : List Label) (fit : n ≤ mos
             rw (m, has-backers stage labels x d, lt-ltb d n l, lt-ltb d most_disks (omega arith))
 
     -- .. and where none does, one that holds it proposes it
-    proposed_by_masks : 0 < x → difference x (backers stage labels x) ≡ 0
+    pub proposed_by_masks : 0 < x → difference x (backers stage labels x) ≡ 0
         → ltb 0 held ≡ some n x (λ d. proposes stage (label_at labels d) x)
     unfolding candidate
     proposed_by_masks filled none =

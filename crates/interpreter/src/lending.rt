@@ -1,5 +1,6 @@
 // The bytes that a command lends to its call.
 ghost use Rattle.std.specs.Prelude.{◌≡◌};
+ghost use Rattle.buffers.specs.ByteLists.{bytes_of};
 ghost use Rattle.protocol.specs.Geometry.{block_size};
 ghost use Rattle.protocol.specs.States.{label_at};
 ghost use Rattle.interpreter.specs.Lending.{shown_label, lent_bytes};
@@ -24,7 +25,7 @@ fn label_at(labels: [Label; DISKS], d: usize) -> Label
 
 // The stored label, none for a disk that the cabinet does not have: the writer then refuses it.
 fn shown_label(s: State, d: usize) -> Lent
-    ensures { result ≡ shown_label s d block_size }
+    ensures { bytes_of result ≡ shown_label s d block_size }
 {
     let mut bytes = [0u8; BLOCK_SIZE];
     let label = label_at(s.labels, d);
@@ -33,7 +34,7 @@ fn shown_label(s: State, d: usize) -> Lent
 }
 
 pub fn lend(loan: Loan, s: State) -> Lent
-    ensures { result ≡ lent_bytes loan s }
+    ensures { bytes_of result ≡ lent_bytes loan s }
 {
     match loan {
         Loan::Block(v) => Lent::first_of([v; BLOCK_SIZE], BLOCK_SIZE),

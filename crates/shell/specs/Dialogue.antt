@@ -1,7 +1,7 @@
 -- Document 01, "The cabinet program": lines in, lines out. First as the paper has it, over the lines of a whole
 -- input; then byte by byte, as input comes.
 use Rattle.std.specs.Prelude.{cond, List, [], ◌∷◌, ◌++◌, ℕ, ◌+◌, eqb, length}
-use Rattle.buffers.specs.ByteLists.{with_byte_within}
+use Rattle.buffers.specs.ByteLists.{bytes_of, with_byte_within}
 use Rattle.protocol.specs.declared.State.{State}
 use Rattle.protocol.specs.States.{zero_state}
 use Rattle.commands.specs.Commands.{on_first, line_most, command_of}
@@ -96,4 +96,4 @@ abbrev pub dialogue_of : List ℕ → State → List ℕ → Dialogue
 dialogue_of line state memory = record { machine = machine_of state memory; line = line }
 
 abbrev pub dialogue : Shell → List ℕ → Dialogue
-dialogue shell memory = dialogue_of shell.line shell.state memory
+dialogue shell memory = dialogue_of (bytes_of shell.line) shell.state memory

@@ -3,6 +3,7 @@
 
 ghost use Rattle.std.specs.Prelude.{◌≡◌, ◌+◌, ◌*◌, ◌≤◌, [], length};
 ghost use Rattle.buffers.specs.Buffers.{Stored};
+ghost use Rattle.buffers.specs.ByteLists.{bytes_of};
 ghost use Rattle.protocol.specs.States.{zero_state};
 ghost use Rattle.replies.specs.Replies.{reply_most, reply_line};
 ghost use Rattle.shell.specs.Dialogue.{line_ended, line_result, after_byte, printed_byte};
@@ -17,8 +18,8 @@ pub use line::Line;
 
 // Between two bytes: the cabinet's state, the line under way, and how much of the output is used. The output and the
 // memory are lent to each call, and not in this struct: each method would have to promise that it keeps the
-// references. Not Copy, since `Line` is not.
-#[derive(Drop)]
+// references.
+#[derive(Clone, Copy)]
 pub struct Shell {
     pub state: State,
     pub line: Line,
@@ -28,7 +29,7 @@ pub struct Shell {
 impl Shell {
     // "Before the first good `f` the state is all zero".
     pub fn new() -> Self
-        ensures { result ≡ record { state = zero_state; line = []; used = 0 } }
+        ensures { (result.state ≡ zero_state) × (bytes_of result.line ≡ []) × (result.used ≡ 0) }
     {
         Shell {
             state: state::zero(),
@@ -94,7 +95,7 @@ impl Shell {
             (printed_end (dialogue self.old memory.old))
             out.old self.new.used out.new }
         ensures room { self.new.used ≤ self.old.used + reply_most }
-        ensures ended { self.new.line ≡ [] }
+        ensures ended { bytes_of self.new.line ≡ [] }
     {
         self.used = finish(
             self.line.as_slice(),

@@ -87,7 +87,7 @@ module _ (n b online : ℕ) (slots : List ℕ) where
   abbrev refusals : List (ℕ × Bool)
   refusals = assemble_refusals n b online slots
 
-  arguments_then_slots : first_of refusals
+  pub arguments_then_slots : first_of refusals
       ≡ cond (eqb (first_of (take 4 refusals)) 0) (first_of (refusals_below n n b slots)) (first_of (take 4 refusals))
   unfolding assemble_refusals
   arguments_then_slots =

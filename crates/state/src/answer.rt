@@ -16,13 +16,17 @@ pub fn done(state: State) -> Answer
     }
 }
 
-// "A refusal gives its number, a store count of 0, and no change in the state". A call asks its paragraph and goes on,
-// or gives this: two arms at each, since closures in their place would both borrow the area.
+// "A refusal gives its number, a store count of 0, and no change in the state": of any number.
+pub fn without_stores(s: State, refusal: u8) -> Answer
+    ensures { result ≡ record { refusal = refusal; stores = 0; state = s } }
+{
+    Answer { refusal, ..done(s) }
+}
+
+// The same of a refusal. A call asks its paragraph and goes on, or gives this: two arms at each, since closures in
+// their place would both borrow the area.
 pub fn refused(state: State, refusal: Refusal) -> Answer
     ensures { result ≡ record { refusal = number_of refusal; stores = 0; state = state } }
 {
-    Answer {
-        refusal: refusal.number(),
-        ..done(state)
-    }
+    without_stores(state, refusal.number())
 }

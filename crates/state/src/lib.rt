@@ -6,6 +6,6 @@ mod answer;
 mod building;
 mod power;
 
-pub use answer::{done, refused};
+pub use answer::{done, refused, without_stores};
 pub use building::{blank_labels, powered_off, state_of, with_labels, with_online, zero};
 pub use power::{current, is_running, live, source};

@@ -3,5 +3,5 @@ use Rattle.area.proofs.zero_disk.Goals as goal
 
 pub returns : goal.returns
 returns c =
-    disk_clears _ _ _ _ _ _ c.requires c.part.ensures.start c.part.ensures.end _
+    disk_clears _ _ _ _ _ _ c.requires c.part-disk.ensures.start c.part-disk.ensures.end _
     (c.fill.ensures.after (λ y same. same))
